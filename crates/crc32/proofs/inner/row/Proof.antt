@@ -1,0 +1,21 @@
+use borrow.Author.Needs.{needs}
+use Rattle.crc32.proofs.inner.row.Statement.{statement}
+use Rattle.crc32.proofs.inner.row.Tie as tie
+
+mul-result : tie.Need-mul-result
+mul-result c = search needs
+
+add-result : tie.Need-add-result
+add-result c = search needs
+
+mul-result-2 : tie.Need-mul-result-2
+mul-result-2 c = search needs
+
+element-copy-out-result : tie.Need-element-copy-out-result
+element-copy-out-result c = search needs
+
+returns : tie.Need-returns
+returns c = c .before .pre .0 .entry (c .before .args .j) (c .before .args .k) (c .before .pre .1 .0) (c .before .pre .1 .1)
+
+pub row-spec : {M : Type 1} → statement M
+row-spec = tie.close (tie.spec mul-result add-result mul-result-2 element-copy-out-result returns)

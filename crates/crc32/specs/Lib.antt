@@ -1,0 +1,5 @@
+pub mod Crc
+pub mod Rows
+pub mod Xor
+pub mod Register
+pub mod HeaderSum
