@@ -3,11 +3,12 @@
 use mathlib.Core.Path.{_≡_, refl, sym, ap, ap₂, _∙_}
 use mathlib.Core.List.{List, [], _∷_, _++_}
 use Prim.Native.Nat.{ℕ, zero, suc, _+_, _-_, _*_, _/_, _%_, _^_, _≤_, _<_}
-use native.Mathlib.Nat.{add-zero, mul-one, mul-assoc, pow-suc, mul-div-cancel, mul-mod-left}
+use native.Mathlib.Nat.{add-zero, add-comm, div-add-mod', mod-lt, mul-one, mul-assoc, pow-suc, mul-div-cancel, mul-mod-left}
 use native.Mathlib.Omega.{arith}
 use native.Mathlib.Numerals.{add-one}
 use lib.ListN.{length, take, drop, getD, length-drop, drop-of-length-le, take-append-drop}
 use lib.Seq.{drop-cons, getD-drop, take-add, drop-drop}
+use lib.Pow.{pow-pos}
 use lib.Bits.{bitXor, xor-comm, xor-zero-r, xor-shifted}
 use Rattle.crc32.specs.Crc.{step, steps, feed, start, finish, crc}
 use Rattle.crc32.specs.HeaderSum.{blanked, headerSum}
@@ -86,37 +87,60 @@ word-feed s i h b x =
     ∙ sym (feed-le (getD s i 0 ∷ getD s (i + 1) 0 ∷ getD s (i + 2) 0 ∷ getD s (i + 3) 0 ∷ []) x (b i, (b (i + 1), (b (i + 2), (b (i + 3), tt)))))
     ∙ ap (feed x) (sym (four-at s i h))
 
--- a word goes by its bytes
-step-byte : (m a : ℕ) → steps (m + 8) a ≡ bitXor (steps m (a / 256)) (steps (m + 8) (a % 256))
-step-byte m a =
-    let e : a ≡ a / 256 * 256 + a % 256 = omega arith in
-    let n : m + 8 ≡ 8 + m = omega arith in
-    rw n (ap (steps (8 + m)) e ∙ steps-split 8 m (a / 256) (a % 256) (omega arith))
+-- a number goes by its digits of w bits: the lowest, and the rest w places down
+step-digit : (w m a : ℕ) → steps (m + w) a ≡ bitXor (steps m (a / 2 ^ w)) (steps (m + w) (a % 2 ^ w))
+step-digit w m a =
+    rw (add-comm m w)
+    (ap (steps (w + m)) (sym (div-add-mod' a (2 ^ w))) ∙ steps-split w m (a / 2 ^ w) (a % 2 ^ w) (mod-lt a (pow-pos w)))
 
 pub one-byte : (a : ℕ) → steps 8 a ≡ bitXor (a / 256) (steps 8 (a % 256))
 unfolding steps
-one-byte a = step-byte 0 a
+one-byte a = step-digit 8 0 a
+
+-- four digits of w bits: a word by its bytes, and two bytes by their halves
+four-digits : (w m a : ℕ)
+    → bitXor (bitXor (bitXor (steps m (a / 2 ^ w / 2 ^ w / 2 ^ w)) (steps (m + w) (a / 2 ^ w / 2 ^ w % 2 ^ w))) (steps (m + w + w) (a / 2 ^ w % 2 ^ w))) (steps (m + w + w + w) (a % 2 ^ w))
+    ≡ steps (m + w + w + w) a
+four-digits w m a =
+    sym
+    (step-digit w (m + w + w) a
+    ∙ ap (λ (x : ℕ). bitXor x (steps (m + w + w + w) (a % 2 ^ w)))
+    (step-digit w (m + w) (a / 2 ^ w)
+    ∙ ap (λ (x : ℕ). bitXor x (steps (m + w + w) (a / 2 ^ w % 2 ^ w))) (step-digit w m (a / 2 ^ w / 2 ^ w))))
 
 pub word-rows : (j a : ℕ)
     → bitXor (bitXor (bitXor (steps (8 * (4 * j) + 8) (a / 16777216)) (steps (8 * (4 * j + 1) + 8) (a / 65536 % 256))) (steps (8 * (4 * j + 2) + 8) (a / 256 % 256))) (steps (8 * (4 * j + 3) + 8) (a % 256))
     ≡ steps (32 * j + 32) a
 word-rows j a =
-    let q : a / 256 / 256 ≡ a / 65536 = omega arith in
-    let q2 : a / 65536 / 256 ≡ a / 16777216 = omega arith in
+    let q : a / 65536 ≡ a / 256 / 256 = omega arith in
+    let q2 : a / 16777216 ≡ a / 256 / 256 / 256 = omega arith in
     let n0 : 8 * (4 * j) + 8 ≡ 32 * j + 8 = omega arith in
     let n1 : 8 * (4 * j + 1) + 8 ≡ 32 * j + 8 + 8 = omega arith in
     let n2 : 8 * (4 * j + 2) + 8 ≡ 32 * j + 8 + 8 + 8 = omega arith in
     let n3 : 8 * (4 * j + 3) + 8 ≡ 32 * j + 8 + 8 + 8 + 8 = omega arith in
     let n : 32 * j + 32 ≡ 32 * j + 8 + 8 + 8 + 8 = omega arith in
-    rw (n0, n1, n2, n3, n)
-    (sym
-    (step-byte (32 * j + 8 + 8 + 8) a
-    ∙ ap (λ (x : ℕ). bitXor x (steps (32 * j + 8 + 8 + 8 + 8) (a % 256)))
-    (step-byte (32 * j + 8 + 8) (a / 256)
-    ∙ ap (λ (x : ℕ). bitXor x (steps (32 * j + 8 + 8 + 8) (a / 256 % 256)))
-    (ap (steps (32 * j + 8 + 8)) q
-    ∙ step-byte (32 * j + 8) (a / 65536)
-    ∙ ap (λ (x : ℕ). bitXor (steps (32 * j + 8) x) (steps (32 * j + 8 + 8) (a / 65536 % 256))) q2))))
+    rw (n0, n1, n2, n3, n, q2, q) (four-digits 8 (32 * j + 8) a)
+
+pub half-rows : (j a : ℕ)
+    → bitXor (bitXor (bitXor (steps (4 * (4 * j) + 4) (a / 4096)) (steps (4 * (4 * j + 1) + 4) (a / 256 % 16))) (steps (4 * (4 * j + 2) + 4) (a / 16 % 16))) (steps (4 * (4 * j + 3) + 4) (a % 16))
+    ≡ steps (16 * j + 16) a
+half-rows j a =
+    let q : a / 256 ≡ a / 16 / 16 = omega arith in
+    let q2 : a / 4096 ≡ a / 16 / 16 / 16 = omega arith in
+    let n0 : 4 * (4 * j) + 4 ≡ 16 * j + 4 = omega arith in
+    let n1 : 4 * (4 * j + 1) + 4 ≡ 16 * j + 4 + 4 = omega arith in
+    let n2 : 4 * (4 * j + 2) + 4 ≡ 16 * j + 4 + 4 + 4 = omega arith in
+    let n3 : 4 * (4 * j + 3) + 4 ≡ 16 * j + 4 + 4 + 4 + 4 = omega arith in
+    let n : 16 * j + 16 ≡ 16 * j + 4 + 4 + 4 + 4 = omega arith in
+    rw (n0, n1, n2, n3, n, q2, q) (four-digits 4 (16 * j + 4) a)
+
+-- a word by its two halves
+pub word-halves : (j a : ℕ) → bitXor (steps (16 * (2 * j) + 16) (a / 65536)) (steps (16 * (2 * j + 1) + 16) (a % 65536)) ≡ steps (32 * j + 32) a
+word-halves j a =
+    let n0 : 16 * (2 * j) + 16 ≡ 32 * j + 16 = omega arith in
+    let n1 : 16 * (2 * j + 1) + 16 ≡ 32 * j + 16 + 16 = omega arith in
+    let n : 32 * j + 32 ≡ 32 * j + 16 + 16 = omega arith in
+    rw (n0, n1, n) (sym (step-digit 16 (32 * j + 16) a))
 
 -- sixteen bytes as four words
 pub block-feed : (s : List ℕ) (i r w0 w1 w2 w3 : ℕ)
@@ -138,6 +162,17 @@ block-feed s i r w0 w1 w2 w3 h0 h1 h2 h3 =
     ∙ ap (λ (l : List ℕ). feed (feed (feed r (take 4 (drop i s))) (take 4 (drop (i + 4) s))) (take 8 l)) (drop-drop 4 (i + 4) s ∙ ap (λ (n : ℕ). drop n s) e8)
     ∙ ap (feed (feed (feed r (take 4 (drop i s))) (take 4 (drop (i + 4) s)))) (take-add 4 4 (drop (i + 8) s)) ∙ feed-append _ (take 4 (drop (i + 8) s)) (take 4 (drop 4 (drop (i + 8) s)))
     ∙ ap (λ (l : List ℕ). feed (feed (feed (feed r (take 4 (drop i s))) (take 4 (drop (i + 4) s))) (take 4 (drop (i + 8) s))) (take 4 l)) (drop-drop 4 (i + 8) s ∙ ap (λ (n : ℕ). drop n s) e12))
+
+-- eight bytes as two words
+pub pair-feed : (s : List ℕ) (i r w0 w1 : ℕ)
+    → ((x : ℕ) → steps 32 (bitXor x w0) ≡ feed x (take 4 (drop i s)))
+    → ((x : ℕ) → steps 32 (bitXor x w1) ≡ feed x (take 4 (drop (i + 4) s)))
+    → bitXor (steps 32 w1) (steps 64 (bitXor r w0)) ≡ feed r (take 8 (drop i s))
+pair-feed s i r w0 w1 h0 h1 =
+    xor-comm (steps 32 w1) (steps 64 (bitXor r w0))
+    ∙ steps-join 32 32 (bitXor r w0) w1 ∙ ap (λ (x : ℕ). steps 32 (bitXor x w1)) (h0 r) ∙ h1 _
+    ∙ sym (ap (feed r) (take-add 4 4 (drop i s)) ∙ feed-append r (take 4 (drop i s)) (take 4 (drop 4 (drop i s)))
+    ∙ ap (λ (l : List ℕ). feed (feed r (take 4 (drop i s))) (take 4 l)) (drop-drop 4 i s))
 
 -- ---- for the loops
 
@@ -166,14 +201,16 @@ four-zeros : (r : ℕ) → feed r (0 ∷ 0 ∷ 0 ∷ 0 ∷ []) ≡ steps 32 r
 four-zeros r = feed-zeros 4 r
 
 -- a header goes in three parts: its front, its own field as zeros, and what is behind it
-pub header-parts : (xs : List ℕ) (at front field n x : ℕ) → front ≡ feed 0xFFFFFFFF (take 16 (drop at xs)) → field ≡ steps 32 front
-    → x ≡ feed field (take n (drop (at + 20) xs)) → n ≡ 72 → bitXor x 0xFFFFFFFF ≡ headerSum xs at
+pub header-parts : (xs : List ℕ) (at m n front field x : ℕ) → m ≡ 16 → n ≡ 72 → front ≡ feed 0xFFFFFFFF (take m (drop at xs)) → field ≡ steps 32 front
+    → x ≡ feed field (take n (drop (at + 20) xs)) → bitXor x 0xFFFFFFFF ≡ headerSum xs at
 unfolding headerSum blanked crc start finish
-header-parts xs at front field n x ea ef ex en =
+header-parts xs at m n front field x em en ea ef ex =
     let a = take 16 (drop at xs) in
-    let m = take 72 (drop 20 (drop at xs)) in
+    let b = take 72 (drop 20 (drop at xs)) in
     ap (λ (y : ℕ). bitXor y 0xFFFFFFFF)
-    (ex ∙ ap₂ (λ (y k : ℕ). feed y (take k (drop (at + 20) xs))) (ef ∙ ap (steps 32) ea) en
+    (ex
+    ∙ ap₂ (λ (y k : ℕ). feed y (take k (drop (at + 20) xs)))
+    (ef ∙ ap (steps 32) (ea ∙ ap (λ (k : ℕ). feed 0xFFFFFFFF (take k (drop at xs))) em)) en
     ∙ ap (λ (l : List ℕ). feed (steps 32 (feed 0xFFFFFFFF a)) (take 72 l)) (sym (drop-drop 20 at xs))
-    ∙ ap (λ (y : ℕ). feed y m) (sym (four-zeros (feed 0xFFFFFFFF a)))
-    ∙ sym (feed-append 0xFFFFFFFF a (0 ∷ 0 ∷ 0 ∷ 0 ∷ m) ∙ feed-append (feed 0xFFFFFFFF a) (0 ∷ 0 ∷ 0 ∷ 0 ∷ []) m))
+    ∙ ap (λ (y : ℕ). feed y b) (sym (four-zeros (feed 0xFFFFFFFF a)))
+    ∙ sym (feed-append 0xFFFFFFFF a (0 ∷ 0 ∷ 0 ∷ 0 ∷ b) ∙ feed-append (feed 0xFFFFFFFF a) (0 ∷ 0 ∷ 0 ∷ 0 ∷ []) b))

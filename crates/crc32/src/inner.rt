@@ -8,6 +8,7 @@ ghost use Rattle.crc32.specs.Crc.{steps, feed, crc};
 ghost use Rattle.crc32.specs.Rows.{Rows};
 ghost use Rattle.crc32.specs.HeaderSum.{headerSum};
 use crate::rows::ROWS;
+use crate::small;
 use crate::words::byte0;
 use crate::words::byte1;
 use crate::words::byte2;
@@ -125,4 +126,12 @@ pub fn header_sum_at<'a>(t: &'a [u32; 4096], s: &'a [u8], at: usize) -> u32
     let front = block(t, 0xffffffff, s, at);
     let field = four(t, 0, front);
     run(t, field, &s[at + 20..at + 92]) ^ 0xffffffff
+}
+
+// The same sum with no table lent: for a caller that sums one header and nothing else.
+pub fn header_sum_once(s: &[u8], at: usize) -> u32
+    requires { ⌜ at + 92 ≤ length (now s) ⌝ }
+    ensures { λ r. ⌜ r ≡ headerSum (now (s .entry)) at ⌝ }
+{
+    small::header_sum_once(s, at)
 }

@@ -21,8 +21,7 @@ pub extern "C" fn rt_header_sum(h: &[u8]) -> u32
     if h.len() < 92 {
         return 0;
     }
-    let t = inner::table();
-    inner::header_sum_at(&t, h, 0)
+    inner::header_sum_once(h, 0)
 }
 
 // n header sums over one lent table, xored: at each place of s in turn, so that no two sums in a row are the same. For the measurement alone.

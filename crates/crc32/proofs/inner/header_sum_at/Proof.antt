@@ -1,5 +1,6 @@
 -- `inner::header_sum_at` meets its contract: what it feeds in three parts is the header with its own field as zero.
 -- Assumes nothing.
+use mathlib.Core.Path.{refl}
 use Prim.Native.Nat.{_+_, _-_}
 use native.Mathlib.Omega.{arith}
 use borrow.Author.Needs.{needs}
@@ -34,8 +35,8 @@ run-requires c κs = search needs
 returns : tie.Need-returns
 returns c =
     let a = c .before .before .before .before .before .args in
-    header-parts (a .s .now) (a .at) (c .before .before .before .block .result) (c .before .before .four .result) (a .at + 92 - (a .at + 20)) (c .run .result)
-    (c .before .before .before .block .ensures) (c .before .before .four .ensures) (c .run .ensures) (omega arith)
+    header-parts (a .s .now) (a .at) 16 (a .at + 92 - (a .at + 20)) (c .before .before .before .block .result) (c .before .before .four .result) (c .run .result)
+    refl (omega arith) (c .before .before .before .block .ensures) (c .before .before .four .ensures) (c .run .ensures)
 
 pub header-sum-at-spec : {M : Type 1} → statement M
 header-sum-at-spec =
