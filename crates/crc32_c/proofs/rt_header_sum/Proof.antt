@@ -8,14 +8,11 @@ use Rattle.crc32_c.proofs.rt_header_sum.Tie as tie
 returns : tie.Need-returns
 returns c = search (short-sum, needs)
 
-table-requires : tie.Need-table-requires
-table-requires c κs = search needs
-
-header-sum-at-requires : tie.Need-header-sum-at-requires
-header-sum-at-requires c κs = search needs
+header-sum-once-requires : tie.Need-header-sum-once-requires
+header-sum-once-requires c κs = search needs
 
 returns-2 : tie.Need-returns-2
 returns-2 c = search (whole-sum, needs)
 
 pub rt-header-sum-spec : {M : Type 1} → statement M
-rt-header-sum-spec = tie.close (tie.spec returns table-requires header-sum-at-requires returns-2)
+rt-header-sum-spec = tie.close (tie.spec returns header-sum-once-requires returns-2)
