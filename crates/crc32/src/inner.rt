@@ -9,10 +9,6 @@ ghost use Rattle.crc32.specs.Rows.{Rows};
 ghost use Rattle.crc32.specs.HeaderSum.{headerSum};
 use crate::rows::ROWS;
 use crate::small;
-use crate::words::byte0;
-use crate::words::byte1;
-use crate::words::byte2;
-use crate::words::byte3;
 use crate::words::wide;
 use crate::words::word_at;
 
@@ -24,12 +20,12 @@ pub fn table() -> [u32; 4096]
 }
 
 // Row j of the table at k.
-fn row(t: &[u32; 4096], j: usize, k: usize) -> u32
+fn row(t: &[u32; 4096], j: usize, k: u32) -> u32
     requires { ⌜ Rows 16 (now t) ⌝ }
     requires { ⌜ (j < 16) × (k < 256) ⌝ }
     ensures { λ r. ⌜ r ≡ steps (8 * j + 8) k ⌝ }
 {
-    t[256 * j + k]
+    t[256 * j + k as usize]
 }
 
 // A word and 4 * j bytes of zero behind it, by the four rows from 4 * j on.
@@ -38,10 +34,10 @@ fn four(t: &[u32; 4096], j: usize, a: u32) -> u32
     requires { ⌜ j < 4 ⌝ }
     ensures { λ r. ⌜ r ≡ steps (32 * j + 32) a ⌝ }
 {
-    row(t, 4 * j, byte3(a))
-        ^ row(t, 4 * j + 1, byte2(a))
-        ^ row(t, 4 * j + 2, byte1(a))
-        ^ row(t, 4 * j + 3, byte0(a))
+    row(t, 4 * j, a / 16777216)
+        ^ row(t, 4 * j + 1, a / 65536 % 256)
+        ^ row(t, 4 * j + 2, a / 256 % 256)
+        ^ row(t, 4 * j + 3, a % 256)
 }
 
 // One byte.
@@ -50,7 +46,7 @@ fn one(t: &[u32; 4096], r: u32, b: u8) -> u32
     ensures { λ x. ⌜ x ≡ steps 8 (bitXor r b) ⌝ }
 {
     let a = r ^ wide(b);
-    (a / 256) ^ row(t, 0, byte0(a))
+    (a / 256) ^ row(t, 0, a % 256)
 }
 
 // Sixteen bytes. The word that waits for the register comes last, so that the other twelve look-ups are done before it.
