@@ -3,14 +3,14 @@
 use mathlib.Core.Path.{_≡_, refl, sym, ap, ap₂, _∙_}
 use mathlib.Core.List.{List, [], _∷_, _++_}
 use Prim.Native.Nat.{ℕ, zero, suc, _+_, _-_, _*_, _/_, _%_, _^_, _≤_, _<_}
-use native.Mathlib.Nat.{add-zero, add-comm, div-add-mod', mod-lt, mul-one, mul-assoc, pow-suc, mul-div-cancel, mul-mod-left}
+use native.Mathlib.Nat.{add-zero, add-comm, zero-mul, div-add-mod', mod-lt, mul-one, mul-assoc, pow-suc, mul-div-cancel, mul-mod-left}
 use native.Mathlib.Omega.{arith}
 use native.Mathlib.Numerals.{add-one}
 use lib.ListN.{length, take, drop, getD, length-drop, drop-of-length-le, take-append-drop}
 use lib.Seq.{drop-cons, getD-drop, take-add, drop-drop}
 use lib.Pow.{pow-pos}
 use lib.Bits.{bitXor, xor-comm, xor-zero-r, xor-shifted}
-use Rattle.crc32.specs.Crc.{step, steps, feed, start, finish, crc}
+use Rattle.crc32.specs.Crc.{polynomial, step, steps, feed, start, finish, crc}
 use Rattle.crc32.specs.HeaderSum.{blanked, headerSum}
 use Rattle.crc32.specs.Xor.{xor-assoc}
 use Rattle.crc32.specs.Register.{steps-xor, steps-add, feed-append, feed-zeros}
@@ -21,7 +21,8 @@ use Rattle.crc32.specs.Register.{steps-xor, steps-add, feed-append, feed
 pub step-even : (q : ℕ) → step (q * 2) ≡ q
 unfolding step
 step-even q =
-    ap₂ (λ (x y : ℕ). bitXor (x * 0xEDB88320) y) (mul-mod-left q 2) (mul-div-cancel q (omega arith))
+    ap₂ (λ (x y : ℕ). bitXor (x * polynomial) y) (mul-mod-left q 2) (mul-div-cancel q (omega arith))
+    ∙ ap (λ (x : ℕ). bitXor x q) (zero-mul polynomial)
 
 pub steps-shifted : (n q : ℕ) → steps n (q * 2 ^ n) ≡ q
 unfolding steps

@@ -4,29 +4,29 @@
 use mathlib.Core.Path.{_≡_, refl, sym, ap, ap₂, _∙_}
 use mathlib.Core.List.{List, [], _∷_, _++_}
 use Prim.Native.Nat.{ℕ, zero, suc, _+_, _*_, _/_, _%_, _^_, _≤_, _<_}
-use native.Mathlib.Nat.{zero-add, suc-add}
+use native.Mathlib.Nat.{zero-add, suc-add, zero-mul, one-mul}
 use native.Mathlib.Omega.{arith}
-use lib.Bits.{bitXor, xor-shr, xor-mod, xor-lt, xor-zero-r}
+use lib.Bits.{bitXor, xor-shr, xor-mod, xor-lt, xor-self, xor-zero-r}
 use lib.ListN.{length, getD, replicate}
-use Rattle.crc32.specs.Crc.{step, steps, feed, start, finish, crc}
+use Rattle.crc32.specs.Crc.{polynomial, step, steps, feed, start, finish, crc}
 use Rattle.crc32.specs.Xor.{bit, xor-swap}
 
 -- ---- bits
 
-polynomial-xor : (x y : ℕ) → x < 2 → y < 2 → bitXor x y * 0xEDB88320 ≡ bitXor (x * 0xEDB88320) (y * 0xEDB88320)
-polynomial-xor zero y hx hy = refl
-polynomial-xor (suc zero) zero hx hy = refl
-polynomial-xor (suc zero) (suc zero) hx hy = refl
-polynomial-xor (suc (suc x)) y hx hy = absurd (omega arith)
-polynomial-xor (suc zero) (suc (suc y)) hx hy = absurd (omega arith)
+digit-xor : (p x y : ℕ) → x < 2 → y < 2 → bitXor x y * p ≡ bitXor (x * p) (y * p)
+digit-xor p zero y hx hy = simp zero-mul
+digit-xor p (suc zero) zero hx hy = simp (one-mul, zero-mul, xor-zero-r)
+digit-xor p (suc zero) (suc zero) hx hy = simp (one-mul, zero-mul, xor-self)
+digit-xor p (suc (suc x)) y hx hy = absurd (omega arith)
+digit-xor p (suc zero) (suc (suc y)) hx hy = absurd (omega arith)
 
 -- the step is linear: this is what every table and every change of a part stand on
 pub step-xor : (a b : ℕ) → step (bitXor a b) ≡ bitXor (step a) (step b)
 unfolding step
 step-xor a b =
-    ap₂ (λ (x y : ℕ). bitXor (x * 0xEDB88320) y) (xor-mod a b 1) (xor-shr a b 1)
-    ∙ ap (λ (x : ℕ). bitXor x (bitXor (a / 2) (b / 2))) (polynomial-xor (a % 2) (b % 2) (bit a) (bit b))
-    ∙ xor-swap (a % 2 * 0xEDB88320) (b % 2 * 0xEDB88320) (a / 2) (b / 2)
+    ap₂ (λ (x y : ℕ). bitXor (x * polynomial) y) (xor-mod a b 1) (xor-shr a b 1)
+    ∙ ap (λ (x : ℕ). bitXor x (bitXor (a / 2) (b / 2))) (digit-xor polynomial (a % 2) (b % 2) (bit a) (bit b))
+    ∙ xor-swap (a % 2 * polynomial) (b % 2 * polynomial) (a / 2) (b / 2)
 
 pub steps-xor : (n a b : ℕ) → steps n (bitXor a b) ≡ bitXor (steps n a) (steps n b)
 unfolding steps
@@ -80,7 +80,7 @@ feed-zeros (suc n) r =
 -- ---- bounds
 
 step-fits : (r : ℕ) → r < 2 ^ 32 → step r < 2 ^ 32
-unfolding step
+unfolding polynomial step
 step-fits r h = xor-lt 32 (r % 2 * 0xEDB88320) (r / 2) (omega arith) (omega arith)
 
 pub steps-fits : (n r : ℕ) → r < 2 ^ 32 → steps n r < 2 ^ 32
@@ -101,5 +101,5 @@ crc-fits bs f = xor-lt 32 (feed 0xFFFFFFFF bs) 0xFFFFFFFF (feed-fits bs 0xFFFFFF
 -- ---- the published check value
 
 pub crc-check : crc (49 ∷ 50 ∷ 51 ∷ 52 ∷ 53 ∷ 54 ∷ 55 ∷ 56 ∷ 57 ∷ []) ≡ 0xCBF43926
-unfolding crc feed step steps start finish
+unfolding crc feed polynomial step steps start finish
 crc-check = refl
