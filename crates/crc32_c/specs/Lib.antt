@@ -1,0 +1,3 @@
+-- The definitions that the contracts of the exports cite.
+-- Assumes nothing.
+pub mod Exports
