@@ -1,8 +1,8 @@
 // Prints the check sum CRC-32/ISO-HDLC of published vectors and then of standard input, so that
 // anyone can compare what the proved code computes with what others have published.
 //
-// Each line is the sum, eight hexadecimal digits, and what it is the sum of. README.md, beside
-// this crate's `src`, says where each vector comes from.
+// Each line has a sum, in eight hexadecimal digits, and says of what it is the sum. README.md,
+// beside the folder `src`, says where each vector comes from.
 ghost use Prim.Native.Nat.{ℕ, _%_, _<_, _≤_};
 ghost use mathlib.Core.Path.{_≡_};
 ghost use lib.ListN.{length, getD, take};
@@ -71,6 +71,7 @@ fn print_byte(byte: u8) {
     io::print_hex(STDOUT_FILENO, byte as u64, 2);
 }
 
+// Bytes in hexadecimal, each after a space.
 fn print_bytes(bytes: &[u8]) {
     let mut i = 0;
     while i < bytes.len() {
@@ -87,7 +88,7 @@ fn show_bytes(bytes: &[u8]) {
     io::write_all(STDOUT_FILENO, b"\n");
 }
 
-// Makes every lent byte the same.
+// Makes all lent bytes the same.
 fn fill_same(bytes: &mut [u8], byte: u8)
     ensures { λ _. ⌜ length (now (bytes .exit)) ≡ length (now (bytes .entry)) ⌝ }
     ensures { λ _. ⌜ ((k : ℕ) → k < length (now (bytes .entry)) → getD (now (bytes .exit)) k 0 ≡ byte) ⌝ }
@@ -111,7 +112,7 @@ fn fill_rising(bytes: &mut [u8])
     }
 }
 
-// The check sum of the first n bytes.
+// The check sum of the first n bytes: one buffer serves runs of every length.
 fn sum_of_first(bytes: &[u8], n: usize) -> u32
     requires { ⌜ n ≤ length (now bytes) ⌝ }
     ensures { λ r. ⌜ r ≡ crc (take n (now (bytes .entry))) ⌝ }
@@ -143,14 +144,14 @@ fn show_rising(n: usize, what: &[u8])
     io::write_all(STDOUT_FILENO, b"\n");
 }
 
-// Whether there is a byte of standard input left.
+// Whether a byte of standard input is left.
 fn is_more() -> bool {
     let mut one = [0u8; 1];
     io::read_full(STDIN_FILENO, &mut one) != 0
 }
 
-// A line for all of standard input, if a buffer of 65,536 bytes can hold it. Only a full buffer is
-// followed by a second read, so that a person who types the input ends it once.
+// A line for all of standard input, if the buffer can hold it. Only a full buffer is followed by
+// a test for more, so that a person who types the input has to end it only once.
 fn show_input() {
     let mut space = io::large_buffer();
     let n = io::read_full(STDIN_FILENO, &mut space);
@@ -163,7 +164,7 @@ fn show_input() {
     io::write_all(STDOUT_FILENO, b" bytes of standard input\n");
 }
 
-// The check value of the CRC catalogue, and the short texts of other documents.
+// Texts of up to 14 bytes, from short to long; "123456789" is the catalogue's check value.
 fn show_short_texts() {
     show(b"", b"nothing");
     show_quoted(b"a");
@@ -180,6 +181,7 @@ fn show_short_texts() {
     show_quoted(b"message digest");
 }
 
+// Texts of 26 to 80 bytes, from short to long.
 fn show_long_texts() {
     show_quoted(b"abcdefghijklmnopqrstuvwxyz");
     show_quoted(b"Test vector from febooti.com");
@@ -193,7 +195,7 @@ fn show_long_texts() {
     );
 }
 
-// Bytes that are no text: the ends of a byte's range, and the vectors of AUTOSAR.
+// Bytes that are no text: the least and the largest byte, and the vectors of AUTOSAR.
 fn show_few_bytes() {
     show_bytes(b"\x00");
     show_bytes(b"\xff");
@@ -219,8 +221,8 @@ fn show_png_chunks() {
     );
 }
 
-// Sequences of every length that a partition table has use for: 512 bytes are a block, 16,384 are
-// the array of 128 entries, all of them unused.
+// Runs and sequences, up to the longest that the buffer holds. 512 bytes are a block of most
+// disks, and 16,384 bytes of zero are the array of 128 unused entries of a partition table.
 fn show_sequences() {
     show_run(0, 32);
     show_run(255, 32);

@@ -1,3 +1,4 @@
+-- `sums::hex_digits` meets its contract: each place has what `last_digit` ensures of it. Assumes nothing.
 use borrow.Author.Needs.{needs}
 use Rattle.sums.proofs.hex_digits.Statement.{statement}
 use Rattle.sums.proofs.hex_digits.Tie as tie
@@ -27,7 +28,17 @@ last-digit-requires-8 : tie.Need-last-digit-requires-8
 last-digit-requires-8 c κs = search needs
 
 returns : tie.Need-returns
-returns c = cc
+returns c =
+    rw (
+      c .before .before .before .before .before .before .before .last-digit .ensures,
+      c .before .before .before .before .before .before .last-digit2 .ensures,
+      c .before .before .before .before .before .last-digit3 .ensures,
+      c .before .before .before .before .last-digit4 .ensures,
+      c .before .before .before .last-digit5 .ensures,
+      c .before .before .last-digit6 .ensures,
+      c .before .last-digit7 .ensures,
+      c .last-digit8 .ensures,
+    )
 
 pub hex-digits-spec : {M : Type 1} → statement M
 hex-digits-spec =

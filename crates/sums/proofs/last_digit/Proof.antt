@@ -1,3 +1,4 @@
+-- `sums::last_digit` meets its contract: both arms are what the definition says there. Assumes nothing.
 use borrow.Author.Needs.{needs}
 use borrow.Author.Tests.{lt-ltb, le-ltb}
 use Rattle.sums.proofs.last_digit.Statement.{statement}

@@ -1,3 +1,4 @@
+-- `sums::print_bytes` is safe and ends: `i` is at most the length, and the measure is what is left of it. Assumes nothing.
 use Prim.Native.Nat.{_≤_, _-_}
 use borrow.Author.Needs.{needs}
 use lib.ListN.{length}
