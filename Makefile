@@ -1,12 +1,18 @@
 # The targets of the repository. `make test` is the gate: its last line is rt ci's `N passed, 0 failed`.
-# `make bench` measures the check sum beside a plain byte table and zlib (Debian's zlib1g-dev).
-.PHONY: test bench clean
+.PHONY: demo test bench clean
+
+# Prints the check sums of published vectors and of what is piped in; a terminal counts as no input.
+demo:
+	@said=$$(rt check sums 2>&1 </dev/null) || { echo "$$said"; exit 1; }
+	@if [ -t 0 ]; then target/bin/sums </dev/null; else target/bin/sums; fi
 
 test:
 	rt fmt --check
 	rt ci
 
+# Measures the check sum beside a plain byte table and zlib, in one run.
 bench:
+	@echo '#include <zlib.h>' | cc -E - >/dev/null 2>&1 || { echo "bench: zlib's header is missing; on Debian: apt-get install zlib1g-dev"; exit 1; }
 	rt staticlib crc32_c
 	cc -O2 -o target/bench-crc bench/crc.c target/staticlib/libcrc32_c.a -lz
 	target/bench-crc
