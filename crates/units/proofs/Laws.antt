@@ -1,0 +1,374 @@
+-- The laws of the numbers in bytes of `specs/Bytes.antt`, and of the tests that the code makes. No contract cites this file. Assumes nothing.
+use mathlib.Core.Path.{_≡_, refl, sym, ap, _∙_}
+use mathlib.Core.Logic.{_⊎_, inl, inr, ⊎-elim}
+use mathlib.Core.Bool.{Bool, true, false, not, _&&_, _||_}
+use mathlib.Core.List.{List, [], _∷_, _++_}
+use Prim.Native.Nat.{ℕ, zero, suc, _+_, _*_, _-_, _/_, _%_, _^_, _≤_, _<_}
+use native.Mathlib.Nat.{eq-zero-or-pos, lt-of-not-le, pow-suc, pow-le-pow-right, div-lt-iff-lt-mul, le-div-iff-mul-le}
+use native.Mathlib.Decide.{decLe}
+use native.Mathlib.Omega.{arith}
+use lib.Bits.{bitOr, bitXor, or-add-and, and-le-l, and-le-r, xor-add-and, xor-self}
+use lib.Dec.{eqb, ltb, leb}
+use lib.ListN.{length, take, drop, getD, set, replicate, length-append, drop-of-length-le}
+use lib.Seq.{drop-cons, drop-drop, sets, take-at, drop-at, take-nil, getD-drop}
+use borrow.Author.Tests.{lt-ltb, le-ltb, le-leb, lt-leb, eq-eqb, ne-eqb, leb-true, eqb-true, not-false}
+use Rattle.units.specs.Bytes.{part, le, num, bytes, total, laid, same, allZero}
+use Rattle.units.specs.Places.{goodSize, inside}
+use Rattle.units.proofs.Lists.{length-part, part-part, part-in, part-out, part-same, part-step, store-more, sets-then}
+
+-- ---- tests
+
+-- what a comparison in the code says of the same comparison in a definition
+pub ruleset tests = (lt-ltb, le-ltb, le-leb, lt-leb, eq-eqb, ne-eqb)
+
+-- a number is zero or is not
+zero-or {ℓ} : {X : Type ℓ} (n : ℕ) → (n ≡ 0 → X) → ((n ≡ 0 → ⊥) → X) → X
+zero-or n f g = ⊎-elim f (λ p. g (λ e. omega arith)) (eq-zero-or-pos n)
+
+-- one order or the other
+split {ℓ} : {X : Type ℓ} (a b : ℕ) → (a ≤ b → X) → (b < a → X) → X
+split a b f g = elim (decLe a b) [ yes h ↦ f h | no h ↦ g (lt-of-not-le h) ]
+
+-- the end of a range against a length, and its start against what the length leaves
+pub inside-start : (at n len : ℕ) → n ≤ len → leb at (len - n) ≡ leb (at + n) len
+inside-start at n len h =
+    split (at + n) len
+    (λ p. le-leb at (len - n) (omega arith) ∙ sym (le-leb (at + n) len p))
+    (λ p. lt-leb at (len - n) (omega arith) ∙ sym (lt-leb (at + n) len p))
+
+-- a test for less against its opposite
+pub not-ltb : (a b : ℕ) → not (ltb a b) ≡ leb b a
+not-ltb a b = split b a (λ h. rw (le-ltb a b h) (sym (le-leb b a h))) (λ h. rw (lt-ltb a b h) (sym (lt-leb b a h)))
+
+-- what is past the test `!is_inside(..)`
+pub inside-yes : {r : Bool} (len at n : ℕ) → r ≡ inside len at n → not r ≡ false → at + n ≤ len
+unfolding inside
+inside-yes {r} len at n e f = leb-true (at + n) len (sym e ∙ not-false r f)
+
+or-true : (p q : Bool) → (p || q) ≡ true → (p ≡ true) ⊎ (q ≡ true)
+or-true true q e = inl refl
+or-true false q e = inr e
+
+-- the two block sizes
+pub good-size : (b : ℕ) → goodSize b ≡ true → (b ≡ 512) ⊎ (b ≡ 4096)
+unfolding goodSize
+good-size b e = ⊎-elim (λ p. inl (eqb-true b 512 p)) (λ p. inr (eqb-true b 4096 p)) (or-true (eqb b 512) (eqb b 4096) e)
+
+-- what is past the test `!good_block_size(..)`
+pub size-yes : {r : Bool} (b : ℕ) → r ≡ goodSize b → not r ≡ false → 0 < b
+size-yes {r} b e f = ⊎-elim (λ p. omega arith) (λ p. omega arith) (good-size b (sym e ∙ not-false r f))
+
+-- a product that fits 64 bits, and one that does not
+pub product : (n m : ℕ) → 0 < m → n ≤ (2 ^ 64 - 1) / m → n * m < 2 ^ 64
+product n m h k = omega (arith, le-div-iff-mul-le {k = m} {x = n} {y = 2 ^ 64 - 1} h .0 k)
+
+pub product-not : (n m : ℕ) → 0 < m → (2 ^ 64 - 1) / m < n → 2 ^ 64 ≤ n * m
+product-not n m h k = omega (arith, div-lt-iff-lt-mul {k = m} {x = 2 ^ 64 - 1} {y = n} h .0 k)
+
+-- ---- numbers
+
+-- one byte more in front of a number
+pub num-more : (xs : List ℕ) (at k : ℕ) → at < length xs → num xs at (suc k) ≡ getD xs at 0 + 256 * num xs (suc at) k
+unfolding num le
+num-more xs at k h = rw (drop-cons xs at 0 h)
+
+-- the same for a reader that goes down from place at + i
+pub num-down : (xs : List ℕ) (at i n : ℕ) → 0 < i → i ≤ n → at + n ≤ length xs
+    → num xs (at + (i - 1)) (n - (i - 1)) ≡ num xs (at + i) (n - i) * 256 + getD xs (at + (i - 1)) 0
+num-down xs at i n h k f =
+    let a : n - (i - 1) ≡ suc (n - i) = omega arith in
+    let b : suc (at + (i - 1)) ≡ at + i = omega arith in
+    let l : at + (i - 1) < length xs = omega arith in
+    let e : num xs (at + (i - 1)) (suc (n - i)) ≡ getD xs (at + (i - 1)) 0 + 256 * num xs (suc (at + (i - 1))) (n - i) =
+    num-more xs (at + (i - 1)) (n - i) l in
+    rw a (e ∙ rw b (omega arith))
+
+pub pow-down : (i n : ℕ) → 0 < i → i ≤ n → 256 ^ (n - (i - 1)) ≡ 256 ^ (n - i) * 256
+pow-down i n h k =
+    let a : n - (i - 1) ≡ suc (n - i) = omega arith in
+    rw a (pow-suc 256 (n - i))
+
+-- what the reader has passed fits 7 bytes while one is left
+pub pow-7 : (i n : ℕ) → 0 < i → n ≤ 8 → 256 ^ (n - i) ≤ 256 ^ 7
+pow-7 i n h k =
+    let l : n - i ≤ 7 = omega arith in
+    pow-le-pow-right (omega arith) l
+
+-- a number of no bytes
+pub num-none : (xs : List ℕ) (at : ℕ) → num xs at 0 ≡ 0
+unfolding num le
+num-none xs at = refl
+
+-- a store of the next byte, and then of what is left, is the store of all
+pub put-more : (s : List ℕ) (at i n v : ℕ) → i < n
+    → sets (set s (at + i) (v % 256)) (at + (i + 1)) (bytes (n - (i + 1)) (v / 256)) ≡ sets s (at + i) (bytes (n - i) v)
+unfolding bytes
+put-more s at i n v h =
+    let a : n - i ≡ suc (n - (i + 1)) = omega arith in
+    store-more s at i (v % 256) (bytes (n - (i + 1)) (v / 256)) ∙ rw a
+
+-- a store of no bytes
+pub put-none : (s : List ℕ) (at v : ℕ) → sets s at (bytes 0 v) ≡ s
+unfolding bytes
+put-none s at v = refl
+
+pub length-bytes : (n x : ℕ) → length (bytes n x) ≡ n
+unfolding bytes
+length-bytes zero x = refl
+length-bytes (suc n) x = ap suc (length-bytes n (x / 256))
+
+-- without its first byte a number fits one byte less
+fits-next : (n x : ℕ) → x < 256 ^ suc n → x / 256 < 256 ^ n
+fits-next n x h = div-lt-iff-lt-mul {k = 256} {x = x} {y = 256 ^ n} (omega arith) .1 (rw (pow-suc 256 n) at h)
+
+-- whether a number fits n bytes, as the code tests it: one byte after the other, until none is left or the rest is zero
+pub fits-more : (i n v : ℕ) → i < n → ltb (v / 256) (256 ^ (n - (i + 1))) ≡ ltb v (256 ^ (n - i))
+fits-more i n v h =
+    let a : n - i ≡ suc (n - (i + 1)) = omega arith in
+    let p : ℕ = 256 ^ (n - (i + 1)) in
+    let d = div-lt-iff-lt-mul {k = 256} {x = v} {y = p} (omega arith) in
+    rw (a, pow-suc 256 (n - (i + 1)))
+    (split p (v / 256)
+    (λ q. le-ltb (v / 256) p q ∙ sym (le-ltb v (p * 256) (omega arith)))
+    (λ q. lt-ltb (v / 256) p q ∙ sym (lt-ltb v (p * 256) (d .0 q))))
+
+pub fits-none : (v k : ℕ) → k ≡ 0 → eqb v 0 ≡ ltb v (256 ^ k)
+fits-none v k e =
+    rw e (zero-or v (λ z. eq-eqb v 0 z ∙ sym (lt-ltb v 1 (omega arith))) (λ z. ne-eqb v 0 z ∙ sym (le-ltb v 1 (zero-or v (λ y. absurd (z y)) (λ y. omega arith)))))
+
+pub fits-zero : (v k : ℕ) → v ≡ 0 → eqb v 0 ≡ ltb v (256 ^ k)
+fits-zero v k e =
+    let l : 0 ≤ k = omega arith in
+    let p : 256 ^ 0 ≤ 256 ^ k = pow-le-pow-right (omega arith) l in
+    eq-eqb v 0 e ∙ sym (lt-ltb v (256 ^ k) (omega arith))
+
+-- ---- a number in a part, inside a store and beside it
+
+pub num-part : (xs : List ℕ) (a n o m : ℕ) → o + m ≤ n → num (part xs a n) o m ≡ num xs (a + o) m
+unfolding num
+num-part xs a n o m h = ap le (part-part xs a n o m h)
+
+pub num-in : (xs : List ℕ) (at : ℕ) (vs : List ℕ) (o n : ℕ) → at + length vs ≤ length xs → o + n ≤ length vs → num (sets xs at vs) (at + o) n ≡ num vs o n
+unfolding num
+num-in xs at vs o n h k = ap le (part-in xs at vs o n h k)
+
+pub num-out : (xs : List ℕ) (at : ℕ) (vs : List ℕ) (b n : ℕ) → (b + n ≤ at) ⊎ (at + length vs ≤ b) → num (sets xs at vs) b n ≡ num xs b n
+unfolding num
+num-out xs at vs b n o = ap le (part-out xs at vs b n o)
+
+pub num-drop : (xs : List ℕ) (at j n : ℕ) → num xs (at + j) n ≡ num (drop at xs) j n
+unfolding num
+num-drop xs at j n = rw (drop-drop j at xs)
+
+-- ---- what was written reads back, and what was read is written back
+
+pub le-bytes : (n x : ℕ) → x < 256 ^ n → le (bytes n x) ≡ x
+unfolding le bytes
+le-bytes zero x h = omega arith
+le-bytes (suc n) x h =
+    omega (arith, le-bytes n (x / 256) (fits-next n x h))
+
+-- a number that a list begins with, and what stands after it
+pub num-here : (n x : ℕ) (r : List ℕ) → x < 256 ^ n → num (bytes n x ++ r) 0 n ≡ x
+unfolding num
+num-here n x r h = rw (take-at (bytes n x) r n (length-bytes n x)) (le-bytes n x h)
+
+pub num-next : (n x : ℕ) (r : List ℕ) (j m : ℕ) → num (bytes n x ++ r) (n + j) m ≡ num r j m
+num-next n x r j m = num-drop (bytes n x ++ r) n j m ∙ rw (drop-at (bytes n x) r n (length-bytes n x))
+
+pub getD-next : (n x : ℕ) (r : List ℕ) (j : ℕ) → getD (bytes n x ++ r) (n + j) 0 ≡ getD r j 0
+getD-next n x r j = sym (getD-drop n (bytes n x ++ r) j 0) ∙ rw (drop-at (bytes n x) r n (length-bytes n x))
+
+pub field-here : (xs : List ℕ) (k n x : ℕ) (r : List ℕ) → drop k xs ≡ bytes n x ++ r → x < 256 ^ n → num xs k n ≡ x
+unfolding num
+field-here xs k n x r e h = rw (e, take-at (bytes n x) r n (length-bytes n x)) (le-bytes n x h)
+
+-- a number that was stored reads back
+pub num-back : (xs : List ℕ) (at n x : ℕ) → x < 256 ^ n → at + n ≤ length xs → num (sets xs at (bytes n x)) at n ≡ x
+unfolding num
+num-back xs at n x h k =
+    let l : length (bytes n x) ≡ n = length-bytes n x in
+    rw l at (ap le (part-same xs at (bytes n x) (omega arith))) ∙ le-bytes n x h
+
+-- every element is a byte
+abbrev pub Small : List ℕ → Type 0
+Small xs = (k : ℕ) → getD xs k 0 < 256
+
+small-take : (n : ℕ) (l : List ℕ) → Small l → Small (take n l)
+small-take zero l h k = omega arith
+small-take (suc n) [] h k = omega arith
+small-take (suc n) (x ∷ l) h zero = h 0
+small-take (suc n) (x ∷ l) h (suc k) = small-take n l (λ j. h (suc j)) k
+
+small-drop : (xs : List ℕ) (at : ℕ) → Small xs → Small (drop at xs)
+small-drop xs at h k = rw (getD-drop at xs k 0) (h (at + k))
+
+pub small-part : (xs : List ℕ) (at n : ℕ) → Small xs → Small (part xs at n)
+small-part xs at n h = small-take n (drop at xs) (small-drop xs at h)
+
+le-fits : (n : ℕ) (l : List ℕ) → Small l → le (take n l) < 256 ^ n
+unfolding le
+le-fits zero l h = omega arith
+le-fits (suc n) [] h = rw (pow-suc 256 n) (omega (arith, rw take-nil at (le-fits n [] h)))
+le-fits (suc n) (x ∷ l) h = rw (pow-suc 256 n) (omega (arith, h 0, le-fits n l (λ k. h (suc k))))
+
+pub num-fits : (xs : List ℕ) (at n : ℕ) → Small xs → num xs at n < 256 ^ n
+unfolding num
+num-fits xs at n h = le-fits n (drop at xs) (small-drop xs at h)
+
+bytes-le : (l : List ℕ) → Small l → bytes (length l) (le l) ≡ l
+unfolding bytes le
+bytes-le [] h = refl
+bytes-le (x ∷ l) h =
+    let b : x < 256 = h 0 in
+    let m : (x + 256 * le l) % 256 ≡ x = omega arith in
+    let d : (x + 256 * le l) / 256 ≡ le l = omega arith in
+    rw (m, d) (ap (λ (t : List ℕ). x ∷ t) (bytes-le l (λ k. h (suc k))))
+
+pub bytes-num : (xs : List ℕ) (at n : ℕ) → at + n ≤ length xs → Small xs → bytes n (num xs at n) ≡ part xs at n
+unfolding num
+bytes-num xs at n h b = rw (length-part xs at n h) at (bytes-le (part xs at n) (small-part xs at n b))
+
+-- ---- fields one after the other
+
+pub total-more : (ws : List ℕ) (i : ℕ) → i < length ws → total (drop i ws) ≡ getD ws i 0 + total (drop (i + 1) ws)
+unfolding total
+total-more ws i h = let b : i + 1 ≡ suc i = omega arith in rw (b, drop-cons ws i 0 h)
+
+pub laid-more : (s : List ℕ) (p : ℕ) (ws vs : List ℕ) (i : ℕ) → i < length ws → i < length vs
+    → sets (sets s p (bytes (getD ws i 0) (getD vs i 0))) (p + getD ws i 0) (laid (drop (i + 1) ws) (drop (i + 1) vs)) ≡ sets s p (laid (drop i ws) (drop i vs))
+unfolding laid
+laid-more s p ws vs i h k =
+    let b : i + 1 ≡ suc i = omega arith in
+    sets-then s p (bytes (getD ws i 0) (getD vs i 0)) (p + getD ws i 0) (laid (drop (i + 1) ws) (drop (i + 1) vs)) (rw length-bytes)
+    ∙ rw (drop-cons ws i 0 h, drop-cons vs i 0 k, b)
+
+pub laid-none : (s : List ℕ) (p : ℕ) (ws vs : List ℕ) (i : ℕ) → length ws ≤ i → sets s p (laid (drop i ws) (drop i vs)) ≡ s
+unfolding laid
+laid-none s p ws vs i h = rw (drop-of-length-le ws h)
+
+pub length-laid : (ws vs : List ℕ) → length ws ≡ length vs → length (laid ws vs) ≡ total ws
+unfolding laid total
+length-laid [] vs e = refl
+length-laid (w ∷ ws) [] e = absurd (omega arith)
+length-laid (w ∷ ws) (v ∷ vs) e =
+    omega (arith, length-append (bytes w v) (laid ws vs), length-bytes w v, length-laid ws vs (omega arith))
+
+-- ---- zeros
+
+-- an or is zero exactly where both are
+or-zero : (a b : ℕ) → eqb (bitOr a b) 0 ≡ (eqb a 0 && eqb b 0)
+or-zero a b =
+    let f = or-add-and a b in
+    let l = and-le-l a b in
+    let r = and-le-r a b in
+    zero-or a
+    (λ z. rw (eq-eqb a 0 z)
+    (zero-or b
+    (λ w. rw (eq-eqb b 0 w) (eq-eqb (bitOr a b) 0 (omega arith)))
+    (λ w. rw (ne-eqb b 0 w) (ne-eqb (bitOr a b) 0 (λ e. w (omega arith))))))
+    (λ z. rw (ne-eqb a 0 z) (ne-eqb (bitOr a b) 0 (λ e. z (omega arith))))
+
+pub and-assoc : (a b c : Bool) → ((a && b) && c) ≡ (a && (b && c))
+and-assoc true b c = refl
+and-assoc false b c = refl
+
+and-true : (a : Bool) → (a && true) ≡ a
+and-true true = refl
+and-true false = refl
+
+-- a scan that ors the bytes together
+pub zero-more : (xs : List ℕ) (at acc i n : ℕ) → i < n → at + n ≤ length xs
+    → (eqb (bitOr acc (getD xs (at + i) 0)) 0 && allZero (part xs (at + (i + 1)) (n - (i + 1)))) ≡ (eqb acc 0 && allZero (part xs (at + i) (n - i)))
+unfolding allZero
+zero-more xs at acc i n h k =
+    rw (part-step xs at i n h k, or-zero acc (getD xs (at + i) 0))
+    (and-assoc (eqb acc 0) (eqb (getD xs (at + i) 0) 0) (allZero (part xs (at + (i + 1)) (n - (i + 1)))))
+
+pub zero-end : (xs : List ℕ) (at acc k : ℕ) → k ≡ 0 → (eqb acc 0 && allZero (part xs at k)) ≡ eqb acc 0
+unfolding allZero
+zero-end xs at acc k e = rw e (and-true (eqb acc 0))
+
+-- an exclusive or is zero exactly where the two are the same
+xor-zero : (a b : ℕ) → eqb (bitXor a b) 0 ≡ eqb a b
+xor-zero a b =
+    let f = xor-add-and a b in
+    let l = and-le-l a b in
+    let r = and-le-r a b in
+    zero-or (bitXor a b)
+    (λ z. eq-eqb (bitXor a b) 0 z ∙ sym (eq-eqb a b (omega arith)))
+    (λ z. ne-eqb (bitXor a b) 0 z ∙ sym (ne-eqb a b (λ e. z (ap (λ (y : ℕ). bitXor y b) e ∙ xor-self b))))
+
+-- a scan that ors the differences together
+pub same-more : (xs : List ℕ) (at : ℕ) (ys : List ℕ) (acc i : ℕ) → i < length ys → at + length ys ≤ length xs
+    → (eqb (bitOr acc (bitXor (getD xs (at + i) 0) (getD ys i 0))) 0 && same (part xs (at + (i + 1)) (length ys - (i + 1))) (drop (i + 1) ys))
+    ≡ (eqb acc 0 && same (part xs (at + i) (length ys - i)) (drop i ys))
+unfolding same
+same-more xs at ys acc i h k =
+    let j : i + 1 ≡ suc i = omega arith in
+    let b : drop (i + 1) ys ≡ drop (suc i) ys = ap (λ (m : ℕ). drop m ys) j in
+    rw (part-step xs at i (length ys) h k, drop-cons ys i 0 h, b, or-zero acc (bitXor (getD xs (at + i) 0) (getD ys i 0)), xor-zero (getD xs (at + i) 0) (getD ys i 0))
+    (and-assoc (eqb acc 0) (eqb (getD xs (at + i) 0) (getD ys i 0)) (same (part xs (at + (i + 1)) (length ys - (i + 1))) (drop (suc i) ys)))
+
+pub same-end : (xs : List ℕ) (at : ℕ) (ys : List ℕ) (acc i : ℕ) → length ys ≤ i
+    → (eqb acc 0 && same (part xs at (length ys - i)) (drop i ys)) ≡ eqb acc 0
+unfolding same
+same-end xs at ys acc i h =
+    let e : length ys - i ≡ 0 = omega arith in
+    rw (e, drop-of-length-le ys h) (and-true (eqb acc 0))
+
+-- the two are one list exactly where the answer is true
+pub same-true : (xs ys : List ℕ) → same xs ys ≡ true → xs ≡ ys
+unfolding same
+same-true [] [] e = refl
+same-true [] (y ∷ ys) e = let z : _≡_ {A = ℕ} 0 1 = cc in absurd (omega arith)
+same-true (x ∷ xs) [] e = let z : _≡_ {A = ℕ} 0 1 = cc in absurd (omega arith)
+same-true (x ∷ xs) (y ∷ ys) e = go (eqb x y) refl e (same-true xs ys)
+  where
+    go : (t : Bool) → eqb x y ≡ t → (t && same xs ys) ≡ true → (same xs ys ≡ true → xs ≡ ys) → x ∷ xs ≡ y ∷ ys
+    go true p q r = cc (eqb-true x y p, r q)
+    go false p q r = let z : _≡_ {A = ℕ} 0 1 = cc in absurd (omega arith)
+
+pub same-refl : (xs : List ℕ) → same xs xs ≡ true
+unfolding same
+same-refl [] = refl
+same-refl (x ∷ xs) = rw (eq-eqb x x refl) (same-refl xs)
+
+-- to be the same as zeros is to be all zero
+pub same-zeros : (n : ℕ) (xs : List ℕ) → length xs ≡ n → same xs (replicate n 0) ≡ allZero xs
+unfolding same allZero
+same-zeros zero [] e = refl
+same-zeros (suc n) [] e = absurd (omega arith)
+same-zeros zero (x ∷ xs) e = absurd (omega arith)
+same-zeros (suc n) (x ∷ xs) e = rw (same-zeros n xs (omega arith))
+
+pub zero-append : (xs ys : List ℕ) → allZero (xs ++ ys) ≡ (allZero xs && allZero ys)
+unfolding allZero
+zero-append [] ys = refl
+zero-append (x ∷ xs) ys = rw (zero-append xs ys) (sym (and-assoc (eqb x 0) (allZero xs) (allZero ys)))
+
+byte-zero : (x : ℕ) → (eqb (x % 256) 0 && eqb (x / 256) 0) ≡ eqb x 0
+byte-zero x =
+    zero-or x
+    (λ z. rw (eq-eqb (x % 256) 0 (omega arith), eq-eqb (x / 256) 0 (omega arith)) (sym (eq-eqb x 0 z)))
+    (λ z.
+    zero-or (x % 256)
+    (λ w. rw (eq-eqb (x % 256) 0 w, ne-eqb (x / 256) 0 (λ e. z (omega arith))) (sym (ne-eqb x 0 z)))
+    (λ w. rw (ne-eqb (x % 256) 0 w) (sym (ne-eqb x 0 z))))
+
+-- the bytes of a number that fits them are all zero exactly where it is
+pub zero-bytes : (n x : ℕ) → x < 256 ^ n → allZero (bytes n x) ≡ eqb x 0
+unfolding allZero bytes
+zero-bytes zero x h = sym (eq-eqb x 0 (omega arith))
+zero-bytes (suc n) x h = rw (zero-bytes n (x / 256) (fits-next n x h)) (byte-zero x)
+
+pub and-both : (p q : Bool) → (p && q) ≡ true → (p ≡ true) × (q ≡ true)
+and-both true q e = (refl, e)
+and-both false q e = (e, absurd (let z : _≡_ {A = ℕ} 0 1 = cc in omega arith))
+
+-- every element of a list of zeros is zero
+pub zero-at : (xs : List ℕ) (k : ℕ) → allZero xs ≡ true → getD xs k 0 ≡ 0
+unfolding allZero
+zero-at [] k e = refl
+zero-at (x ∷ xs) zero e = eqb-true x 0 (and-both (eqb x 0) (allZero xs) e .0)
+zero-at (x ∷ xs) (suc k) e = zero-at xs k (and-both (eqb x 0) (allZero xs) e .1)

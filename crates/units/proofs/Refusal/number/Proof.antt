@@ -1,0 +1,235 @@
+-- `units::Refusal::number` meets its contract. What the code knows in an arm is the tag of the refusal, and the number is one more. Assumes nothing.
+use mathlib.Core.Path.{_≡_, refl}
+use Prim.Native.Nat.{_+_}
+use native.Mathlib.Omega.{arith}
+use borrow.Author.Needs.{needs}
+use denote.Enum.Declared.{tagOf}
+use Rattle.units.proofs.Refusal.{the-type}
+use Rattle.units.specs.declared.Refusal.{Refusal}
+use Rattle.units.specs.declared.Refusal.the-variants.{BadBlockSize, Short, Overflow, InvalidGptSignature, InvalidCRC32Checksum, PartsCrc, BadEntrySize, ToSmallForBackup, MissingBackupLba, BackupLbaToEarly, WritingToWrongLba, InvalidMBRLength, InvalidMBRSignature, InvalidPartitionLength, NoRoom, WrongLayout, Disagree, BadSlot, NilType, BadRange, OutsideUsable, Overlap, EmptySlot, PastPartition}
+use Rattle.units.specs.Refusals.{number}
+use Rattle.units.proofs.Refusal.number.Statement.{statement}
+use Rattle.units.proofs.Refusal.number.Tie as tie
+
+by-tag : (w : Refusal) → number w ≡ tagOf the-type w + 1
+by-tag BadBlockSize = refl
+by-tag Short = refl
+by-tag Overflow = refl
+by-tag InvalidGptSignature = refl
+by-tag InvalidCRC32Checksum = refl
+by-tag PartsCrc = refl
+by-tag BadEntrySize = refl
+by-tag ToSmallForBackup = refl
+by-tag MissingBackupLba = refl
+by-tag BackupLbaToEarly = refl
+by-tag WritingToWrongLba = refl
+by-tag InvalidMBRLength = refl
+by-tag InvalidMBRSignature = refl
+by-tag InvalidPartitionLength = refl
+by-tag NoRoom = refl
+by-tag WrongLayout = refl
+by-tag Disagree = refl
+by-tag BadSlot = refl
+by-tag NilType = refl
+by-tag BadRange = refl
+by-tag OutsideUsable = refl
+by-tag (Overlap s) = refl
+by-tag EmptySlot = refl
+by-tag PastPartition = refl
+
+enum-told : tie.Need-enum-told
+enum-told c = search needs
+
+enum-told-2 : tie.Need-enum-told-2
+enum-told-2 c = search needs
+
+enum-told-3 : tie.Need-enum-told-3
+enum-told-3 c = search needs
+
+enum-told-4 : tie.Need-enum-told-4
+enum-told-4 c = search needs
+
+enum-told-5 : tie.Need-enum-told-5
+enum-told-5 c = search needs
+
+enum-told-6 : tie.Need-enum-told-6
+enum-told-6 c = search needs
+
+enum-told-7 : tie.Need-enum-told-7
+enum-told-7 c = search needs
+
+enum-told-8 : tie.Need-enum-told-8
+enum-told-8 c = search needs
+
+enum-told-9 : tie.Need-enum-told-9
+enum-told-9 c = search needs
+
+enum-told-10 : tie.Need-enum-told-10
+enum-told-10 c = search needs
+
+enum-told-11 : tie.Need-enum-told-11
+enum-told-11 c = search needs
+
+enum-told-12 : tie.Need-enum-told-12
+enum-told-12 c = search needs
+
+enum-told-13 : tie.Need-enum-told-13
+enum-told-13 c = search needs
+
+enum-told-14 : tie.Need-enum-told-14
+enum-told-14 c = search needs
+
+enum-told-15 : tie.Need-enum-told-15
+enum-told-15 c = search needs
+
+enum-told-16 : tie.Need-enum-told-16
+enum-told-16 c = search needs
+
+enum-told-17 : tie.Need-enum-told-17
+enum-told-17 c = search needs
+
+enum-told-18 : tie.Need-enum-told-18
+enum-told-18 c = search needs
+
+enum-told-19 : tie.Need-enum-told-19
+enum-told-19 c = search needs
+
+enum-told-20 : tie.Need-enum-told-20
+enum-told-20 c = search needs
+
+enum-told-21 : tie.Need-enum-told-21
+enum-told-21 c = search needs
+
+enum-known-self : tie.Need-enum-known-self
+enum-known-self c = search needs
+
+enum-told-22 : tie.Need-enum-told-22
+enum-told-22 c = search needs
+
+enum-told-23 : tie.Need-enum-told-23
+enum-told-23 c = search needs
+
+returns : tie.Need-returns
+returns c = omega (arith, by-tag (c .before .before .args .self))
+
+returns-2 : tie.Need-returns-2
+returns-2 c = omega (arith, by-tag (c .before .before .args .self))
+
+returns-3 : tie.Need-returns-3
+returns-3 c = omega (arith, by-tag (c .before .before .args .self))
+
+returns-4 : tie.Need-returns-4
+returns-4 c = omega (arith, by-tag (c .before .before .args .self))
+
+returns-5 : tie.Need-returns-5
+returns-5 c = omega (arith, by-tag (c .before .before .args .self))
+
+returns-6 : tie.Need-returns-6
+returns-6 c = omega (arith, by-tag (c .before .before .args .self))
+
+returns-7 : tie.Need-returns-7
+returns-7 c = omega (arith, by-tag (c .before .before .args .self))
+
+returns-8 : tie.Need-returns-8
+returns-8 c = omega (arith, by-tag (c .before .before .args .self))
+
+returns-9 : tie.Need-returns-9
+returns-9 c = omega (arith, by-tag (c .before .before .args .self))
+
+returns-10 : tie.Need-returns-10
+returns-10 c = omega (arith, by-tag (c .before .before .args .self))
+
+returns-11 : tie.Need-returns-11
+returns-11 c = omega (arith, by-tag (c .before .before .args .self))
+
+returns-12 : tie.Need-returns-12
+returns-12 c = omega (arith, by-tag (c .before .before .args .self))
+
+returns-13 : tie.Need-returns-13
+returns-13 c = omega (arith, by-tag (c .before .before .args .self))
+
+returns-14 : tie.Need-returns-14
+returns-14 c = omega (arith, by-tag (c .before .before .args .self))
+
+returns-15 : tie.Need-returns-15
+returns-15 c = omega (arith, by-tag (c .before .before .args .self))
+
+returns-16 : tie.Need-returns-16
+returns-16 c = omega (arith, by-tag (c .before .before .args .self))
+
+returns-17 : tie.Need-returns-17
+returns-17 c = omega (arith, by-tag (c .before .before .args .self))
+
+returns-18 : tie.Need-returns-18
+returns-18 c = omega (arith, by-tag (c .before .before .args .self))
+
+returns-19 : tie.Need-returns-19
+returns-19 c = omega (arith, by-tag (c .before .before .args .self))
+
+returns-20 : tie.Need-returns-20
+returns-20 c = omega (arith, by-tag (c .before .before .args .self))
+
+returns-21 : tie.Need-returns-21
+returns-21 c = omega (arith, by-tag (c .before .before .args .self))
+
+returns-22 : tie.Need-returns-22
+returns-22 c = omega (arith, by-tag (c .before .before .before .args .self))
+
+returns-23 : tie.Need-returns-23
+returns-23 c = omega (arith, by-tag (c .before .before .args .self))
+
+returns-24 : tie.Need-returns-24
+returns-24 c = omega (arith, by-tag (c .before .before .args .self))
+
+pub number-spec : {M : Type 1} → statement M
+number-spec =
+    tie.close
+    (tie.spec
+    enum-told
+    enum-told-2
+    enum-told-3
+    enum-told-4
+    enum-told-5
+    enum-told-6
+    enum-told-7
+    enum-told-8
+    enum-told-9
+    enum-told-10
+    enum-told-11
+    enum-told-12
+    enum-told-13
+    enum-told-14
+    enum-told-15
+    enum-told-16
+    enum-told-17
+    enum-told-18
+    enum-told-19
+    enum-told-20
+    enum-told-21
+    enum-known-self
+    enum-told-22
+    enum-told-23
+    returns
+    returns-2
+    returns-3
+    returns-4
+    returns-5
+    returns-6
+    returns-7
+    returns-8
+    returns-9
+    returns-10
+    returns-11
+    returns-12
+    returns-13
+    returns-14
+    returns-15
+    returns-16
+    returns-17
+    returns-18
+    returns-19
+    returns-20
+    returns-21
+    returns-22
+    returns-23
+    returns-24)

@@ -1,0 +1,305 @@
+// The ground of the card table: numbers that are kept apart, document 01's refusals, little-endian fields, and the GUID.
+// Here stand the public calls: each takes every slice and every number. `inner` has the leaves for our own crates.
+pub mod inner;
+
+ghost use mathlib.Core.Path.{_≡_};
+ghost use lib.ListN.{length};
+ghost use Rattle.units.specs.Answer.{Ends};
+ghost use Rattle.units.specs.Refusals.{number};
+ghost use Rattle.units.specs.Places.{goodSize, inside, placeOf, placeAfter, blockOf, arrayPlaceOf, slotOf};
+ghost use Rattle.units.specs.Numbers.{widthOf, numberRead, numberStored};
+ghost use Rattle.units.specs.Guids.{guidRead, guidStored, isNil, nilGuid};
+ghost use Rattle.units.specs.Meanings.{placedMeans, blockMeans, arrayPlaceMeans, slotMeans, numberMeans, guidMeans, storedMeans};
+
+// The number of a block.
+pub struct Lba(pub u64);
+
+// A byte's place in a slice, counted from 0.
+pub struct BytePlace(pub usize);
+
+// An entry's slot, counted from 1. Its array place counts from 0.
+pub struct Slot(pub u32);
+
+// Why a call refuses, by document 01's names. Overlap carries the lowest slot that shares a block.
+pub enum Refusal {
+    BadBlockSize,
+    Short,
+    Overflow,
+    InvalidGptSignature,
+    InvalidCRC32Checksum,
+    PartsCrc,
+    BadEntrySize,
+    ToSmallForBackup,
+    MissingBackupLba,
+    BackupLbaToEarly,
+    WritingToWrongLba,
+    InvalidMBRLength,
+    InvalidMBRSignature,
+    InvalidPartitionLength,
+    NoRoom,
+    WrongLayout,
+    Disagree,
+    BadSlot,
+    NilType,
+    BadRange,
+    OutsideUsable,
+    Overlap(Slot),
+    EmptySlot,
+    PastPartition,
+}
+
+impl Refusal {
+    // The number that document 01 gives the refusal.
+    pub fn number(self) -> u32
+        ensures { λ r. ⌜ r ≡ number self ⌝ }
+    {
+        match self {
+            Refusal::BadBlockSize => 1,
+            Refusal::Short => 2,
+            Refusal::Overflow => 3,
+            Refusal::InvalidGptSignature => 4,
+            Refusal::InvalidCRC32Checksum => 5,
+            Refusal::PartsCrc => 6,
+            Refusal::BadEntrySize => 7,
+            Refusal::ToSmallForBackup => 8,
+            Refusal::MissingBackupLba => 9,
+            Refusal::BackupLbaToEarly => 10,
+            Refusal::WritingToWrongLba => 11,
+            Refusal::InvalidMBRLength => 12,
+            Refusal::InvalidMBRSignature => 13,
+            Refusal::InvalidPartitionLength => 14,
+            Refusal::NoRoom => 15,
+            Refusal::WrongLayout => 16,
+            Refusal::Disagree => 17,
+            Refusal::BadSlot => 18,
+            Refusal::NilType => 19,
+            Refusal::BadRange => 20,
+            Refusal::OutsideUsable => 21,
+            Refusal::Overlap(_s) => 22,
+            Refusal::EmptySlot => 23,
+            Refusal::PastPartition => 24,
+        }
+    }
+}
+
+// Whether a call accepts. It stands beside a value that holds an array, since an enum holds none.
+pub enum Verdict {
+    Accepted,
+    Refused(Refusal),
+}
+
+// Whether a block size is 512 or 4,096. Every call that is given another answers 1, first of all.
+pub fn good_block_size(b: u64) -> bool
+    ensures { λ r. ⌜ r ≡ goodSize b ⌝ }
+{
+    b == 512 || b == 4096
+}
+
+// Whether n bytes from place at on are inside a slice of len bytes; an end past 64 bits is not.
+pub fn is_inside(len: usize, at: BytePlace, n: usize) -> bool
+    ensures { λ r. ⌜ r ≡ inside len (at .0) n ⌝ }
+{
+    if len < n {
+        return false;
+    }
+    at.0 <= len - n
+}
+
+pub enum Placed {
+    At(BytePlace),
+    Refused(Refusal),
+}
+
+impl Lba {
+    // Where the block starts, in blocks of b bytes: 1, 3.
+    pub fn place(self, b: u64) -> Placed
+        ensures { λ r. ⌜ placedMeans r ≡ placeOf (self .0) b ⌝ }
+    {
+        if !good_block_size(b) {
+            return Placed::Refused(Refusal::BadBlockSize);
+        }
+        let lba = self.0;
+        if 0xFFFF_FFFF_FFFF_FFFF / b < lba {
+            return Placed::Refused(Refusal::Overflow);
+        }
+        Placed::At(BytePlace((lba * b) as usize))
+    }
+}
+
+pub enum BlockFound {
+    In(Lba),
+    Refused(Refusal),
+}
+
+impl BytePlace {
+    // The place n bytes further on: 3.
+    pub fn after(self, n: usize) -> Placed
+        ensures { λ r. ⌜ placedMeans r ≡ placeAfter (self .0) n ⌝ }
+    {
+        let at = self.0;
+        if 0xFFFF_FFFF_FFFF_FFFF - at < n {
+            return Placed::Refused(Refusal::Overflow);
+        }
+        Placed::At(BytePlace(at + n))
+    }
+
+    // The block that holds the byte, in blocks of b bytes: 1.
+    pub fn block(self, b: u64) -> BlockFound
+        ensures { λ r. ⌜ blockMeans r ≡ blockOf (self .0) b ⌝ }
+    {
+        if !good_block_size(b) {
+            return BlockFound::Refused(Refusal::BadBlockSize);
+        }
+        BlockFound::In(Lba(self.0 as u64 / b))
+    }
+}
+
+pub enum ArrayPlace {
+    At(u32),
+    Refused(Refusal),
+}
+
+pub enum SlotFound {
+    At(Slot),
+    Refused(Refusal),
+}
+
+impl Slot {
+    // The slot's place in an array of count entries: 18.
+    pub fn array_place(self, count: u32) -> ArrayPlace
+        ensures { λ r. ⌜ arrayPlaceMeans r ≡ arrayPlaceOf (self .0) count ⌝ }
+    {
+        let slot = self.0;
+        if slot < 1 || count < slot {
+            return ArrayPlace::Refused(Refusal::BadSlot);
+        }
+        ArrayPlace::At(slot - 1)
+    }
+
+    // The slot at an array place: 3.
+    pub fn at_array_place(place: u32) -> SlotFound
+        ensures { λ r. ⌜ slotMeans r ≡ slotOf place ⌝ }
+    {
+        if place == 0xFFFF_FFFF {
+            return SlotFound::Refused(Refusal::Overflow);
+        }
+        SlotFound::At(Slot(place + 1))
+    }
+}
+
+// How many bytes a number takes.
+pub enum Width {
+    Two,
+    Four,
+    Eight,
+}
+
+pub enum NumberRead {
+    Read(u64),
+    Refused(Refusal),
+}
+
+// What a call that stores bytes answers: how many it stored.
+pub enum Stored {
+    Bytes(usize),
+    Refused(Refusal),
+}
+
+// The number in the bytes at a place, least byte first: 2.
+pub fn read_number(s: &[u8], at: BytePlace, width: Width) -> NumberRead
+    ensures { λ r. ⌜ numberMeans r ≡ numberRead (now (s .entry)) (at .0) (widthOf width) ⌝ }
+{
+    let n = inner::width_bytes(width);
+    let a = at.0;
+    if !is_inside(s.len(), at, n) {
+        return NumberRead::Refused(Refusal::Short);
+    }
+    NumberRead::Read(inner::num_at(s, a, n))
+}
+
+// Stores a number in the bytes at a place, least byte first: 3 if it does not fit the width, 2.
+pub fn store_number(s: &mut [u8], at: BytePlace, width: Width, x: u64) -> Stored
+    ensures { λ r. ⌜ Ends (numberStored (now (s .entry)) (at .0) (widthOf width) x) (storedMeans r) (now (s .exit)) ⌝ }
+{
+    let n = inner::width_bytes(width);
+    let a = at.0;
+    if !inner::fits(x, n) {
+        return Stored::Refused(Refusal::Overflow);
+    }
+    if !is_inside(s.len(), at, n) {
+        return Stored::Refused(Refusal::Short);
+    }
+    inner::put_num(s, a, n, x);
+    Stored::Bytes(n)
+}
+
+// The last eight bytes of a GUID, in their order.
+pub struct Tail(
+    pub u8,
+    pub u8,
+    pub u8,
+    pub u8,
+    pub u8,
+    pub u8,
+    pub u8,
+    pub u8,
+);
+
+// A GUID by its fields (UEFI 2.10, appendix A).
+pub struct Guid {
+    pub time_low: u32,
+    pub time_mid: u16,
+    pub time_high: u16,
+    pub tail: Tail,
+}
+
+impl Guid {
+    // The GUID whose bytes are all zero.
+    pub fn nil() -> Guid
+        ensures { λ r. ⌜ r ≡ nilGuid ⌝ }
+    {
+        Guid {
+            time_low: 0,
+            time_mid: 0,
+            time_high: 0,
+            tail: Tail(0, 0, 0, 0, 0, 0, 0, 0),
+        }
+    }
+
+    // Whether all sixteen bytes are zero.
+    pub fn is_nil(self) -> bool
+        ensures { λ r. ⌜ r ≡ isNil self ⌝ }
+    {
+        let t = self.tail;
+        let fields = self.time_low == 0 && self.time_mid == 0 && self.time_high == 0;
+        fields && inner::tail_is_zero(t)
+    }
+}
+
+pub enum GuidRead {
+    Read(Guid),
+    Refused(Refusal),
+}
+
+// The GUID in the sixteen bytes at a place: 2.
+pub fn read_guid(s: &[u8], at: BytePlace) -> GuidRead
+    ensures { λ r. ⌜ guidMeans r ≡ guidRead (now (s .entry)) (at .0) ⌝ }
+{
+    let a = at.0;
+    if !is_inside(s.len(), at, 16) {
+        return GuidRead::Refused(Refusal::Short);
+    }
+    GuidRead::Read(inner::guid_at(s, a))
+}
+
+// Stores a GUID in the sixteen bytes at a place: 2.
+pub fn store_guid(s: &mut [u8], at: BytePlace, g: Guid) -> Stored
+    ensures { λ r. ⌜ Ends (guidStored (now (s .entry)) (at .0) g) (storedMeans r) (now (s .exit)) ⌝ }
+{
+    let a = at.0;
+    if !is_inside(s.len(), at, 16) {
+        return Stored::Refused(Refusal::Short);
+    }
+    inner::put_guid(s, a, g);
+    Stored::Bytes(16)
+}
