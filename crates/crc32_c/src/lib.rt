@@ -2,7 +2,7 @@
 ghost use mathlib.Core.Path.{_≡_};
 ghost use Prim.Native.Nat.{_+_, _≤_};
 ghost use Rattle.crc32.specs.Crc.{crc};
-ghost use Rattle.crc32_c.specs.Exports.{exportedSum};
+ghost use Rattle.crc32_c.specs.Exports.{exportedSum, exportedSums, nextPlace};
 use crc32::inner;
 
 // The check sum of s.
@@ -26,7 +26,9 @@ pub extern "C" fn rt_header_sum(h: &[u8]) -> u32
 
 // n header sums over one lent table, xored: at each place of s in turn, so that no two sums in a row are the same. For the measurement alone.
 #[no_mangle]
-pub extern "C" fn rt_header_sums(s: &[u8], n: u32) -> u32 {
+pub extern "C" fn rt_header_sums(s: &[u8], n: u32) -> u32
+    ensures { λ r. ⌜ r ≡ exportedSums (now (s .entry)) n ⌝ }
+{
     if s.len() < 92 {
         return 0;
     }
@@ -46,7 +48,7 @@ pub extern "C" fn rt_header_sums(s: &[u8], n: u32) -> u32 {
 fn following(at: usize, n: usize) -> usize
     requires { ⌜ 92 ≤ n ⌝ }
     requires { ⌜ at + 92 ≤ n ⌝ }
-    ensures { λ r. ⌜ r + 92 ≤ n ⌝ }
+    ensures { λ r. ⌜ (r ≡ nextPlace at n) × (r + 92 ≤ n) ⌝ }
 {
     if n - at > 92 { at + 1 } else { 0 }
 }
