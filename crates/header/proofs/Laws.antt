@@ -1,5 +1,5 @@
--- The laws of a header's 92 bytes: what is stored reads back, what is read is stored back, and what the check sum covers. No contract cites this file.
--- Assumes nothing.
+-- The laws of a header's 92 bytes: what is stored reads back, what is read is stored back, what the check sum covers, and what a read finds after a write.
+-- No contract cites this file. Assumes nothing.
 use mathlib.Core.Path.{_≡_, refl, sym, ap, _∙_}
 use mathlib.Core.Bool.{Bool, true, false, not}
 use mathlib.Core.List.{List, [], _∷_, _++_, append-nil, append-assoc}
@@ -126,7 +126,7 @@ fit-header-of h vs o =
       parts = g .1 .1 .1 .1 .0 .1;
     }
 
--- every byte of a header is a byte
+-- a list of bytes, as a record that shows which list
 record Low (xs : List ℕ) : Type 0 where
   each : Small xs
 
@@ -147,6 +147,7 @@ low-bytes n x = record { each = go n x }
     go (suc n) x zero = omega arith
     go (suc n) x (suc k) = go n (x / 256) k
 
+-- every byte of a header is a byte
 pub small-header : (h : Header) → FitHeader h → Small (headerBytes h)
 small-header h f = low .each
   where
@@ -416,39 +417,39 @@ written-tells wrong xs h b w ys =
           image = sym (ap (λ (o : Outcome (Answer Written)). o .image) e);
         }))
 
--- after an accepted write, of a primary header or a backup, a read at the header's own place is accepted, with the fields that were written
-pub written-reads-back : (wrong : Bool) (xs : List ℕ) (h : Header) (b : ℕ) (w : Written) (ys : List ℕ) → FitHeader h → Small xs
-    → written wrong xs h b ≡ gives (accepted w) ys → headerRead ys (h .«current_lba» .0 * b) ≡ accepted (stored (w .header))
-written-reads-back wrong xs h b w ys f s e =
-    let a = written-tells wrong xs h b w ys e in
-    let p : ℕ = h .«current_lba» .0 * b in
-    let v : Header = withSums h (a .parts) in
-    let H : List ℕ = headerBytes (stored v) in
-    let Z : List ℕ = replicate (b - 92) 0 in
-    let r : (512 ≤ b) × (b ≤ 4096) = size-range b (a .size) in
-    let l : length (H ++ Z) ≡ b = length-append H Z ∙ omega (arith, length-header (stored v), length-replicate {A = ℕ} (b - 92) 0) in
-    let d : drop p ys ≡ H ++ (Z ++ drop (p + length (H ++ Z)) xs) =
-    ap (drop p) (a .image) ∙ drop-sets xs p (H ++ Z) (omega (arith, a .within)) ∙ append-assoc H Z (drop (p + length (H ++ Z)) xs) in
-    stands-reads ys p (stored v) (Z ++ drop (p + length (H ++ Z)) xs) d (fit-summed h (a .parts) f (parts-fit xs h b (a .parts) s (a .array))) (sum-right h (a .parts))
-    ∙ ap (λ (y : Written). accepted (stored (y .header))) (sym (a .answer))
+-- after an accepted write, of a primary header or a backup
+module _ (wrong : Bool) (xs : List ℕ) (h : Header) (b : ℕ) (w : Written) (ys : List ℕ) (f : FitHeader h) (s : Small xs) (e : written wrong xs h b ≡ gives (accepted w) ys) where
+  tells : Accepted wrong xs h b w ys
+  tells = written-tells wrong xs h b w ys e
 
--- so a primary header written to block 1 is the one that is read, and a backup header written to the last whole block
-pub primary-reads-back : (wrong : Bool) (xs : List ℕ) (h : Header) (b : ℕ) (w : Written) (ys : List ℕ) → FitHeader h → Small xs
-    → written wrong xs h b ≡ gives (accepted w) ys → h .«current_lba» .0 ≡ 1 → primaryRead ys b ≡ accepted (stored (w .header))
-unfolding primaryRead
-primary-reads-back wrong xs h b w ys f s e o =
-    let a = written-tells wrong xs h b w ys e in
-    let p : h .«current_lba» .0 * b ≡ b = rw o (one-mul b) in
-    rw (a .size) (rw p at (written-reads-back wrong xs h b w ys f s e))
+  -- a read at the header's own place is accepted, with the fields that were written
+  pub written-reads-back : headerRead ys (h .«current_lba» .0 * b) ≡ accepted (stored (w .header))
+  written-reads-back =
+      let p : ℕ = h .«current_lba» .0 * b in
+      let v : Header = withSums h (tells .parts) in
+      let H : List ℕ = headerBytes (stored v) in
+      let Z : List ℕ = replicate (b - 92) 0 in
+      let r : (512 ≤ b) × (b ≤ 4096) = size-range b (tells .size) in
+      let l : length (H ++ Z) ≡ b = length-append H Z ∙ omega (arith, length-header (stored v), length-replicate {A = ℕ} (b - 92) 0) in
+      let R : List ℕ = drop (p + length (H ++ Z)) xs in
+      let d : drop p ys ≡ H ++ (Z ++ R) = ap (drop p) (tells .image) ∙ drop-sets xs p (H ++ Z) (omega (arith, tells .within)) ∙ append-assoc H Z R in
+      let k : tells .parts < 2 ^ 32 = parts-fit xs h b (tells .parts) s (tells .array) in
+      stands-reads ys p (stored v) (Z ++ R) d (fit-summed h (tells .parts) f k) (sum-right h (tells .parts))
+      ∙ ap (λ (y : Written). accepted (stored (y .header))) (sym (tells .answer))
 
-pub backup-reads-back : (wrong : Bool) (xs : List ℕ) (h : Header) (b : ℕ) (w : Written) (ys : List ℕ) → FitHeader h → Small xs
-    → written wrong xs h b ≡ gives (accepted w) ys → 3 * b ≤ length xs → h .«current_lba» .0 ≡ (length xs - b) / b
-    → backupRead ys b ≡ accepted (stored (w .header))
-unfolding backupRead
-backup-reads-back wrong xs h b w ys f s e l o =
-    let a = written-tells wrong xs h b w ys e in
-    let n : length ys ≡ length xs = ap length (a .image) ∙ length-sets xs (h .«current_lba» .0 * b) (headerBlock (withSums h (a .parts)) b) in
-    rw (a .size, n, le-ltb (length xs) (3 * b) l, ← o) (written-reads-back wrong xs h b w ys f s e)
+  -- so it is the primary header of the image where it was written to block 1
+  pub primary-reads-back : h .«current_lba» .0 ≡ 1 → primaryRead ys b ≡ accepted (stored (w .header))
+  unfolding primaryRead
+  primary-reads-back o =
+      let p : h .«current_lba» .0 * b ≡ b = rw o (one-mul b) in
+      rw (tells .size) (rw p at written-reads-back)
+
+  -- and the backup header where it was written to the last whole block
+  pub backup-reads-back : 3 * b ≤ length xs → h .«current_lba» .0 ≡ (length xs - b) / b → backupRead ys b ≡ accepted (stored (w .header))
+  unfolding backupRead
+  backup-reads-back l o =
+      let n : length ys ≡ length xs = ap length (tells .image) ∙ length-sets xs (h .«current_lba» .0 * b) (headerBlock (withSums h (tells .parts)) b) in
+      rw (tells .size, n, le-ltb (length xs) (3 * b) l, ← o) written-reads-back
 
 -- the number that an answer comes back with
 abbrev numberOf : {A : Type 0} → Answer A → ℕ

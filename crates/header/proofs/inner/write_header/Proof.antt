@@ -17,9 +17,7 @@ returns : tie.Need-returns
 returns c = ends (write-size _ _ _ _ (c .before .good-block-size .ensures) (c .if1 .taken))
 
 returns-2 : tie.Need-returns-2
-returns-2 c =
-    let tested = c in
-    ends (write-wrong _ _ _ _ (tested .before .before .good-block-size .ensures) (tested .before .if1 .left) (tested .if2 .taken))
+returns-2 c = ends (write-wrong _ _ _ _ (c .before .before .good-block-size .ensures) (c .before .if1 .left) (c .if2 .taken))
 
 table-requires : tie.Need-table-requires
 table-requires c κs = search needs
