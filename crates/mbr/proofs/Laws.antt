@@ -8,7 +8,7 @@ use Prim.Native.Nat.{ℕ, zero, suc, _+_, _*_, _-_, _^_, _≤_, _<_}
 use native.Mathlib.Nat.{add-zero, sub-zero}
 use native.Mathlib.Omega.{arith}
 use lib.Dec.{eqb}
-use lib.ListN.{length, length-map, take, drop, getD, set, length-append, drop-of-length-le}
+use lib.ListN.{length, length-map, drop, getD, set, length-append, drop-of-length-le}
 use lib.Seq.{drop-cons, sets, length-sets, take-at, drop-at, getD-drop}
 use borrow.Author.Needs.{length-unmapped}
 use borrow.Author.Tests.{eq-eqb, le-leb, lt-leb, leb-true, not-false}

@@ -1,5 +1,5 @@
 -- `mbr::PartRecord::to_bytes` meets its contract: sixteen bytes stored over sixteen are these bytes. Assumes nothing.
-use mathlib.Core.Path.{_≡_, sym, _∙_}
+use mathlib.Core.Path.{sym, _∙_}
 use lib.ListN.{replicate}
 use borrow.Author.Needs.{needs}
 use Rattle.units.proofs.Lists.{sets-all}

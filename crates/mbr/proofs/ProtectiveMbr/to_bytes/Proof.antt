@@ -1,5 +1,5 @@
 -- `mbr::ProtectiveMbr::to_bytes` meets its contract: four stores, each where the one before it ends, make all of the 512 bytes. Assumes nothing.
-use mathlib.Core.Path.{_≡_, sym, _∙_}
+use mathlib.Core.Path.{sym, _∙_}
 use mathlib.Core.List.{List, _++_}
 use Prim.Native.Nat.{ℕ}
 use native.Mathlib.Omega.{arith}

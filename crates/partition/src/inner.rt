@@ -1,0 +1,261 @@
+// Leaves for our own crates: each `requires` is what its caller has tested. No public calls.
+use crate::Partition;
+use crate::PartitionRead;
+use header::Header;
+use header::SumFound;
+use units::ArrayPlace;
+use units::BytePlace;
+use units::Lba;
+use units::Placed;
+use units::Refusal;
+use units::Slot;
+use units::Verdict;
+ghost use mathlib.Core.Path.{_≡_};
+ghost use mathlib.Core.Bool.{not, true, false};
+ghost use mathlib.Core.List.{List};
+ghost use Prim.Native.Nat.{_+_, _*_, _≤_, _<_, _^_};
+ghost use lib.ListN.{length, replicate};
+ghost use lib.Seq.{sets};
+ghost use Rattle.units.specs.Bytes.{part, allZero};
+ghost use Rattle.units.specs.Places.{insideOrEmpty};
+ghost use Rattle.units.specs.Meanings.{placedMeans};
+ghost use Rattle.partition.specs.Format.{unitsAt, unitBytes, firstZero, cleared, entryAt, entryBytes, fitted, zeroPartition};
+ghost use Rattle.partition.specs.Device.{devicePlace};
+ghost use Rattle.partition.specs.Array.{present, presentFrom, firstSlot, arrayFound, partitionFound};
+
+// The 36 units of a name, as they stand.
+fn units_at(s: &[u8], at: usize) -> [u16; 36]
+    requires { ⌜ at + 72 ≤ length (now s) ⌝ }
+    ensures { λ r. ⌜ r ≡ unitsAt 36 (now (s .entry)) at ⌝ }
+{
+    let mut name = [0u16; 36];
+    let mut i = 0;
+    while i < 36 {
+        name[i] = units::inner::u16_at(s, at + 2 * i);
+        i += 1;
+    }
+    name
+}
+
+// The place of a name's first zero unit, or 36.
+fn first_zero(name: [u16; 36]) -> usize
+    ensures { λ r. ⌜ r ≡ firstZero name ⌝ }
+{
+    let mut i = 0;
+    while i < 36 {
+        if name[i] == 0 {
+            return i;
+        }
+        i += 1;
+    }
+    i
+}
+
+// The name with each unit after its first zero cleared.
+pub fn clear_name(name: [u16; 36]) -> [u16; 36]
+    ensures { λ r. ⌜ r ≡ cleared name ⌝ }
+{
+    let mut out = name;
+    let mut i = first_zero(name);
+    while i < 36 {
+        out[i] = 0;
+        i += 1;
+    }
+    out
+}
+
+// The record in the 128 bytes at place at, its name cleared after the first zero unit.
+pub fn entry_at(s: &[u8], at: usize) -> Partition
+    requires { ⌜ at + 128 ≤ length (now s) ⌝ }
+    ensures { λ r. ⌜ r ≡ entryAt (now (s .entry)) at ⌝ }
+{
+    let part_type_guid = units::inner::guid_at(s, at);
+    let part_guid = units::inner::guid_at(s, at + 16);
+    let first_lba = Lba(units::inner::u64_at(s, at + 32));
+    let last_lba = Lba(units::inner::u64_at(s, at + 40));
+    let flags = units::inner::u64_at(s, at + 48);
+    let name = clear_name(units_at(s, at + 56));
+    Partition {
+        part_type_guid,
+        part_guid,
+        first_lba,
+        last_lba,
+        flags,
+        name,
+    }
+}
+
+fn put_units(s: &mut [u8], at: usize, name: [u16; 36])
+    requires { ⌜ at + 72 ≤ length (now s) ⌝ }
+    ensures { λ _. ⌜ now (s .exit) ≡ sets (now (s .entry)) at (unitBytes name) ⌝ }
+{
+    let mut i = 0;
+    while i < 36 {
+        units::inner::put_num(s, at + 2 * i, 2, name[i] as u64);
+        i += 1;
+    }
+}
+
+// The record's 128 bytes, stored at place at.
+pub fn put_entry(s: &mut [u8], at: usize, p: Partition)
+    requires { ⌜ at + 128 ≤ length (now s) ⌝ }
+    ensures { λ _. ⌜ now (s .exit) ≡ sets (now (s .entry)) at (entryBytes p) ⌝ }
+{
+    let t = p.part_type_guid;
+    let g = p.part_guid;
+    let first = p.first_lba;
+    let last = p.last_lba;
+    let name = p.name;
+    units::inner::put_guid(s, at, t);
+    units::inner::put_guid(s, at + 16, g);
+    units::inner::put_num(s, at + 32, 8, first.0);
+    units::inner::put_num(s, at + 40, 8, last.0);
+    units::inner::put_num(s, at + 48, 8, p.flags);
+    put_units(s, at + 56, name);
+}
+
+// src, cut or filled with zeros to the length of out.
+pub fn fit(out: &mut [u8], src: &[u8])
+    ensures { λ _. ⌜ now (out .exit) ≡ fitted (length (now (out .entry))) (now (src .entry)) ⌝ }
+{
+    let mut i = 0;
+    while i < out.len() {
+        if i < src.len() {
+            out[i] = src[i];
+        } else {
+            out[i] = 0;
+        }
+        i += 1;
+    }
+}
+
+// Where entry `index` of an array that starts at a block stands, if `count` entries from there on end below 2^64: 1, 7, 3.
+pub fn device_place(start: Lba, index: u64, b: u64, entry_size: u32, count: u64) -> Placed
+    ensures { λ r. ⌜ placedMeans r ≡ devicePlace (start .0) index b «entry_size» count ⌝ }
+{
+    if !units::good_block_size(b) {
+        return Placed::Refused(Refusal::BadBlockSize);
+    }
+    if entry_size == 0 || 4096 < entry_size {
+        return Placed::Refused(Refusal::BadEntrySize);
+    }
+    let size = entry_size as u64;
+    let most = 0xFFFF_FFFF_FFFF_FFFF;
+    if most / b < start.0 || most / size < index || most / size < count {
+        return Placed::Refused(Refusal::Overflow);
+    }
+    let base = start.0 * b;
+    let offset = index * size;
+    let n = count * size;
+    if most - base < offset {
+        return Placed::Refused(Refusal::Overflow);
+    }
+    let at = base + offset;
+    if most - at < n {
+        return Placed::Refused(Refusal::Overflow);
+    }
+    Placed::At(BytePlace(at as usize))
+}
+
+// The 128 bytes at place at.
+fn entry_bytes(s: &[u8], at: usize) -> [u8; 128]
+    requires { ⌜ at + 128 ≤ length (now s) ⌝ }
+    ensures { λ r. ⌜ r ≡ part (now (s .entry)) at 128 ⌝ }
+{
+    let mut bytes = [0u8; 128];
+    let mut i = 0;
+    while i < 128 {
+        bytes[i] = s[at + i];
+        i += 1;
+    }
+    bytes
+}
+
+// Whether the entry at place at is present: not 128 zero bytes.
+pub fn is_present(s: &[u8], at: usize) -> bool
+    requires { ⌜ at + 128 ≤ length (now s) ⌝ }
+    ensures { λ r. ⌜ r ≡ not (allZero (part (now (s .entry)) at 128)) ⌝ }
+{
+    let bytes = entry_bytes(s, at);
+    let empty = [0u8; 128];
+    !units::inner::same_at(&bytes, 0, &empty)
+}
+
+// How many of the count entries from place at on are present.
+pub fn count_present(s: &[u8], at: usize, count: u32) -> u32
+    requires { ⌜ insideOrEmpty (length (now s)) at (count * 128) ≡ true ⌝ }
+    ensures { λ r. ⌜ r ≡ length (presentFrom (now (s .entry)) at 0 count) ⌝ }
+{
+    let mut n = 0;
+    let mut k = 0;
+    while k < count {
+        if is_present(s, at + (k as usize) * 128) {
+            n += 1;
+        }
+        k += 1;
+    }
+    n
+}
+
+// The first present slot after a slot, among the count entries from place at on; 0 where there is none.
+pub fn next_present(s: &[u8], at: usize, count: u32, after: u32) -> u32
+    requires { ⌜ insideOrEmpty (length (now s)) at (count * 128) ≡ true ⌝ }
+    ensures { λ r. ⌜ r ≡ firstSlot (now (s .entry)) at count after ⌝ }
+{
+    let mut k = after;
+    while k < count {
+        if is_present(s, at + (k as usize) * 128) {
+            return k + 1;
+        }
+        k += 1;
+    }
+    0
+}
+
+// Where the array that a header names stands, once its sum is right: 1, 3, 7, 2, 6.
+pub fn array_place(img: &[u8], h: Header, b: u64) -> Placed
+    ensures { λ r. ⌜ placedMeans r ≡ arrayFound (now (img .entry)) h b ⌝ }
+{
+    let start = h.part_start;
+    match start.place(b) {
+        Placed::Refused(w) => Placed::Refused(w),
+        Placed::At(at) => {
+            if h.part_size != 128 {
+                return Placed::Refused(Refusal::BadEntrySize);
+            }
+            match h.partentry_checksum(img, b) {
+                SumFound::Refused(w) => Placed::Refused(w),
+                SumFound::Sum(sum) => {
+                    if sum != h.crc32_parts {
+                        return Placed::Refused(Refusal::PartsCrc);
+                    }
+                    Placed::At(at)
+                }
+            }
+        }
+    }
+}
+
+// Where a slot's entry stands in the array that a header names: 1, 3, 7, 2, 6, 18.
+pub fn partition_place(img: &[u8], h: Header, b: u64, slot: Slot) -> Placed
+    ensures { λ r. ⌜ placedMeans r ≡ partitionFound (now (img .entry)) h b (slot .0) ⌝ }
+{
+    match array_place(img, h, b) {
+        Placed::Refused(w) => Placed::Refused(w),
+        Placed::At(at) => match slot.array_place(h.num_parts) {
+            ArrayPlace::Refused(w) => Placed::Refused(w),
+            ArrayPlace::At(k) => Placed::At(BytePlace(at.0 + (k as usize) * 128)),
+        },
+    }
+}
+
+// A refusal: absent, with the zero record.
+pub fn refused(w: Refusal) -> PartitionRead
+    ensures { λ r. ⌜ r ≡ record { verdict = Verdict.Refused w; present = false; partition = zeroPartition } ⌝ }
+{
+    PartitionRead {
+        verdict: Verdict::Refused(w),
+        present: false,
+        partition: Partition::zero(),
+    }
+}
