@@ -178,6 +178,7 @@ four (a ∷ b ∷ c ∷ []) h = absurd (omega arith)
 four (a ∷ b ∷ c ∷ d ∷ []) h = refl
 four (a ∷ b ∷ c ∷ d ∷ e ∷ ps) h = absurd (omega arith)
 
+-- where four records' bytes stand from byte 446 on, the four are read
 four-here : (xs : List ℕ) (k : ℕ) (a b c d : PartRecord) (r : List ℕ) → drop (k + 446) xs ≡ recordsBytes (a ∷ b ∷ c ∷ d ∷ []) ++ r
     → FitRecord a → FitRecord b → FitRecord c → FitRecord d
     → mbrAt xs k .partitions ≡ a ∷ b ∷ c ∷ d ∷ []
@@ -361,6 +362,7 @@ abbrev numberOf : {A : Type 0} → Answer A → ℕ
 numberOf (accepted x) = 0
 numberOf (refused w) = w .number
 
+-- the tests of block 0 in their order: inside the image the length test holds
 never-12 : {A : Type 0} (g i q s : Bool) (x : A) → (i ≡ true → q ≡ true)
     → pick (not g) (refuse 1) (pick (not i) (refuse 2) (pick (not g) (refuse 1) (pick (not q) (refuse 12) (pick (not s) (refuse 13) (accepted x))))) ≡ refuse 12
     → ⊥

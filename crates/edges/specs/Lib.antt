@@ -1,0 +1,2 @@
+-- Document 01's cases at the edges.
+pub mod Table
