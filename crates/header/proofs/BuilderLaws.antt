@@ -38,17 +38,6 @@ few-blocks n b h =
     let d : n + (b - 1) < (n + 1) * b = omega arith in
     omega (arith, div-lt-iff-lt-mul {k = b} {x = n + (b - 1)} {y = n + 1} h .1 d)
 
--- two numbers of 32 bits have a product of 64
-pub product-32 : (n m : ℕ) → n < 2 ^ 32 → m < 2 ^ 32 → n * m < 2 ^ 64
-product-32 n m h k =
-    let a : n ≤ 4294967295 = omega arith in
-    let b : m ≤ 4294967295 = omega arith in
-    omega (arith, mul-le-mul a b)
-
--- what is past the test `!good_block_size(..)`
-pub size-bounds : {r : Bool} (b : ℕ) → r ≡ goodSize b → not r ≡ false → (0 < b) × (b ≤ 4096)
-size-bounds {r} b e f = ⊎-elim (λ p. (omega arith, omega arith)) (λ p. (omega arith, omega arith)) (good-size b (sym e ∙ not-false r f))
-
 -- the code's three blocks for those of the definition
 pub header-same : (s : HeaderBuilder) {f f' l l' n n' : ℕ} → f ≡ f' → l ≡ l' → n ≡ n' → headerOf s f l n ≡ headerOf s f' l' n'
 header-same s p q r = cc

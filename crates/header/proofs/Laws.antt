@@ -14,12 +14,12 @@ use denote.Shadow.{shadow}
 use denote.Struct.Declared.{row}
 use mir.Val.{Val}
 use Rattle.units.specs.declared.Guid.{Guid}
-use Rattle.units.specs.Answer.{Why, Answer, accepted, refused, refuse, pick, Outcome, gives}
+use Rattle.units.specs.Answer.{Why, Answer, accepted, refused, numberOf, refuse, pick, Outcome, gives}
 use Rattle.units.specs.Bytes.{part, num, bytes, total, laid, same}
 use Rattle.units.specs.Guids.{guidBytes, tailBytes}
 use Rattle.units.specs.Places.{goodSize, inside, insideOrEmpty}
 use Rattle.units.proofs.Lists.{part-part, part-split, drop-sets}
-use Rattle.units.proofs.Laws.{length-bytes, num-drop, le-bytes, Small, small-part, bytes-num, same-refl}
+use Rattle.units.proofs.Laws.{size-range, by-pick, length-bytes, num-drop, le-bytes, Small, small-part, bytes-num, same-refl}
 use Rattle.units.proofs.GuidLaws.{FitGuid, fit-guid-of, guid-here, guid-bytes-back}
 use Rattle.crc32.specs.Crc.{crc}
 use Rattle.crc32.specs.Register.{crc-fits}
@@ -29,7 +29,7 @@ use Rattle.header.specs.Format.{signature, headerAt, headerBytes}
 use Rattle.header.specs.Reading.{headerRead, primaryRead, backupRead}
 use Rattle.header.specs.Writing.{arrayBytes, partsSum, stored, summed, withSums, headerBlock, Written, ownBlock, written}
 use Rattle.header.proofs.Header.{the-type}
-use Rattle.header.proofs.Ways.{size-range, last-block, read-good}
+use Rattle.header.proofs.Ways.{last-block, read-good}
 
 pub length-header : (h : Header) → length (headerBytes h) ≡ 92
 length-header h = simp (length-append, length-bytes)
@@ -351,11 +351,6 @@ stands-reads xs at h r e f c =
     (sym (sum-there xs at h r e))
     (sym c))
 
--- what holds of both picks holds of the pick; each side may use what the test says
-by-pick {ℓ ℓ′} : {X : Type ℓ} (P : X → Type ℓ′) (t : Bool) (a b : X) → (t ≡ true → P a) → (t ≡ false → P b) → P (pick t a b)
-by-pick P true a b f g = f refl
-by-pick P false a b f g = g refl
-
 -- the sum of an array is a number of 32 bits
 pub parts-fit : (xs : List ℕ) (h : Header) (b x : ℕ) → Small xs → partsSum xs h b ≡ accepted x → x < 2 ^ 32
 unfolding partsSum
@@ -450,11 +445,6 @@ module _ (wrong : Bool) (xs : List ℕ) (h : Header) (b : ℕ) (w : Written) (ys
   backup-reads-back l o =
       let n : length ys ≡ length xs = ap length (tells .image) ∙ length-sets xs (h .«current_lba» .0 * b) (headerBlock (withSums h (tells .parts)) b) in
       rw (tells .size, n, le-ltb (length xs) (3 * b) l, ← o) written-reads-back
-
--- the number that an answer comes back with
-abbrev numberOf : {A : Type 0} → Answer A → ℕ
-numberOf (accepted x) = 0
-numberOf (refused w) = w .number
 
 -- what a refusal by 2 tells
 short-tells : (xs : List ℕ) (at : ℕ) → headerRead xs at ≡ refuse 2 → length xs < at + 92

@@ -4,7 +4,7 @@ use mathlib.Core.Logic.{⊎-elim}
 use mathlib.Core.Bool.{Bool, true, false, not}
 use mathlib.Core.List.{List}
 use Prim.Native.Nat.{ℕ, _+_, _*_, _-_, _/_, _^_, _≤_, _<_}
-use native.Mathlib.Nat.{mul-le-mul, div-mul-le-self}
+use native.Mathlib.Nat.{div-mul-le-self}
 use native.Mathlib.Omega.{arith}
 use lib.Dec.{ltb, leb}
 use lib.ListN.{length, take, drop}
@@ -15,7 +15,7 @@ use Rattle.units.specs.declared.BytePlace.{BytePlace}
 use Rattle.units.specs.Answer.{Why, Answer, accepted, refused, refuse, pick, andThen, gives}
 use Rattle.units.specs.Bytes.{part, same}
 use Rattle.units.specs.Places.{goodSize, inside, insideOrEmpty, placeOf, blockOf}
-use Rattle.units.proofs.Laws.{good-size}
+use Rattle.units.proofs.Laws.{size-range, size-past, place-over, place-fits}
 use Rattle.crc32.specs.Crc.{crc}
 use Rattle.crc32.specs.Register.{crc-empty}
 use Rattle.crc32.specs.HeaderSum.{headerSum}
@@ -23,23 +23,6 @@ use Rattle.header.specs.declared.Header.{Header}
 use Rattle.header.specs.Format.{signature, headerAt}
 use Rattle.header.specs.Reading.{headerRead, backupBlock, backupRead}
 use Rattle.header.specs.Writing.{arrayBytes, partsSum, withSums, headerBlock, ownBlock, written}
-
--- ---- numbers
-
--- the two block sizes are from 512 to 4,096
-pub size-range : (b : ℕ) → goodSize b ≡ true → (512 ≤ b) × (b ≤ 4096)
-size-range b e = ⊎-elim (λ p. (omega arith, omega arith)) (λ p. (omega arith, omega arith)) (good-size b e)
-
--- the same past the test `!good_block_size(..)`
-pub size-past : {r : Bool} (b : ℕ) → r ≡ goodSize b → not r ≡ false → (512 ≤ b) × (b ≤ 4096)
-size-past {r} b e f = size-range b (sym e ∙ not-false r f)
-
--- the product of two numbers of 32 bits fits 64
-pub product-32 : (a b : ℕ) → a < 2 ^ 32 → b < 2 ^ 32 → a * b < 2 ^ 64
-product-32 a b h k =
-    let p : a ≤ 2 ^ 32 - 1 = omega arith in
-    let q : b ≤ 2 ^ 32 - 1 = omega arith in
-    omega (arith, mul-le-mul p q)
 
 -- ---- a header at a place
 
@@ -137,28 +120,6 @@ module _ (xs : List ℕ) (h : Header) (b : ℕ) where
           sym (parts-by-place xs h b ∙ rw (e, ne-eqb (arrayBytes h) 0 z, ← i, t, f, d))
 
 -- ---- a header that is written
-
--- with a good block size, a place tells whether the product passes 64 bits
-module _ (lba b : ℕ) (good : goodSize b ≡ true) where
-  by-place : placeOf lba b ≡ pick (leb (2 ^ 64) (lba * b)) (refuse 3) (accepted (record { 0 = lba * b }))
-  unfolding placeOf
-  by-place = rw good
-
-  place-over : {w : Why} → placeOf lba b ≡ refused w → (leb (2 ^ 64) (lba * b) ≡ true) × (record { number = 3; slot = 0 } ≡ w)
-  place-over {w} e = go (leb (2 ^ 64) (lba * b)) refl (sym by-place ∙ e)
-    where
-      go : (t : Bool) → leb (2 ^ 64) (lba * b) ≡ t → pick {X = Answer BytePlace} t (refuse 3) (accepted (record { 0 = lba * b })) ≡ refused w
-          → (leb (2 ^ 64) (lba * b) ≡ true) × (record { number = 3; slot = 0 } ≡ w)
-      go true p q = (p, cc)
-      go false p q = absurd (let z : _≡_ {A = ℕ} 0 1 = cc in omega arith)
-
-  place-fits : {p : BytePlace} → placeOf lba b ≡ accepted p → (leb (2 ^ 64) (lba * b) ≡ false) × (record { 0 = lba * b } ≡ p)
-  place-fits {p} e = go (leb (2 ^ 64) (lba * b)) refl (sym by-place ∙ e)
-    where
-      go : (t : Bool) → leb (2 ^ 64) (lba * b) ≡ t → pick {X = Answer BytePlace} t (refuse 3) (accepted (record { 0 = lba * b })) ≡ accepted p
-          → (leb (2 ^ 64) (lba * b) ≡ false) × (record { 0 = lba * b } ≡ p)
-      go true f q = absurd (let z : _≡_ {A = ℕ} 0 1 = cc in omega arith)
-      go false f q = (f, cc)
 
 module _ (xs : List ℕ) (h : Header) (b : ℕ) (wrong : Bool) {good : Bool} (g : good ≡ goodSize b) where
   pub write-size : not good ≡ true → written wrong xs h b ≡ gives (refuse 1) xs

@@ -11,14 +11,14 @@ ghost use Rattle.header.specs.Meanings.{builtMeans};
 
 // What a header is built from. An entry count or size that is never set is 128, a backup that is never set is 0.
 pub struct HeaderBuilder {
-    pub primary: bool,
-    pub disk_guid: Guid,
-    pub primary_lba: Lba,
-    pub backup_lba: Lba,
-    pub first_usable: Lba,
-    pub last_usable: Lba,
-    pub num_parts: u32,
-    pub part_size: u32,
+    primary: bool,
+    disk_guid: Guid,
+    primary_lba: Lba,
+    backup_lba: Lba,
+    first_usable: Lba,
+    last_usable: Lba,
+    num_parts: u32,
+    part_size: u32,
 }
 
 pub enum HeaderBuilt {

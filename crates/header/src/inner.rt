@@ -9,8 +9,8 @@ use units::Lba;
 use units::Placed;
 use units::Refusal;
 ghost use mathlib.Core.Path.{_≡_};
-ghost use mathlib.Core.List.{List, _++_};
-ghost use Prim.Native.Nat.{_+_, _*_, _-_, _≤_};
+ghost use mathlib.Core.List.{_++_};
+ghost use Prim.Native.Nat.{_+_, _-_, _≤_};
 ghost use lib.ListN.{length, replicate};
 ghost use lib.Seq.{sets};
 ghost use Rattle.units.specs.Answer.{Ends};
@@ -18,7 +18,7 @@ ghost use Rattle.crc32.specs.Rows.{Rows};
 ghost use Rattle.crc32.specs.HeaderSum.{headerSum};
 ghost use Rattle.header.specs.Format.{headerAt, headerBytes};
 ghost use Rattle.header.specs.Reading.{headerRead};
-ghost use Rattle.header.specs.Writing.{partsSum, written, arrayBytes, withSums, stored};
+ghost use Rattle.header.specs.Writing.{partsSum, written, withSums, stored};
 ghost use Rattle.header.specs.Meanings.{readMeans, writtenMeans, sumMeans};
 
 // The fields of the 92 bytes at place at.

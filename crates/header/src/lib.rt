@@ -10,8 +10,6 @@ use units::Lba;
 use units::Placed;
 use units::Refusal;
 ghost use mathlib.Core.Path.{_≡_};
-ghost use lib.Dec.{leb};
-ghost use lib.ListN.{length};
 ghost use Rattle.units.specs.Answer.{Ends};
 ghost use Rattle.units.specs.Meanings.{blockMeans};
 ghost use Rattle.header.specs.Reading.{primaryRead, backupRead, backupBlock};
@@ -100,7 +98,7 @@ impl Header {
         inner::parts_sum(&t, img, self, b)
     }
 
-    // Stores the header in its own block, with new sums: 1, 11, 3, 2, 3, 2.
+    // Stores a primary header in its own block, with new sums: 1, 11 unless its block comes before the backup's, 3, 2, 3, 2.
     pub fn write_primary(self, img: &mut [u8], b: u64) -> HeaderWritten
         ensures { λ r. ⌜ Ends (primaryWritten (now (img .entry)) self b) (writtenMeans r) (now (img .exit)) ⌝ }
     {
@@ -108,7 +106,7 @@ impl Header {
         inner::write_header(img, self, b, wrong)
     }
 
-    // Stores the header in its own block, with new sums: 1, 11, 3, 2, 3, 2.
+    // Stores a backup header in its own block, with new sums: 1, 11 unless its block comes after the primary's, 3, 2, 3, 2.
     pub fn write_backup(self, img: &mut [u8], b: u64) -> HeaderWritten
         ensures { λ r. ⌜ Ends (backupWritten (now (img .entry)) self b) (writtenMeans r) (now (img .exit)) ⌝ }
     {

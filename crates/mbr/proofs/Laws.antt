@@ -16,11 +16,11 @@ use denote.Shadow.{shadow}
 use denote.Array.{each}
 use denote.Struct.Declared.{row}
 use mir.Val.{Val}
-use Rattle.units.specs.Answer.{Answer, accepted, refused, refuse, pick, gives, Ends}
+use Rattle.units.specs.Answer.{Answer, accepted, refused, numberOf, refuse, pick, gives, Ends}
 use Rattle.units.specs.Bytes.{part, num, bytes, same}
 use Rattle.units.specs.Places.{goodSize, inside}
 use Rattle.units.proofs.Lists.{length-part, part-part, part-split, part-step, part-in, part-same, part-out, sets-then, sets-all, drop-next, drop-sets}
-use Rattle.units.proofs.Laws.{good-size, length-bytes, field-here, num-part, num-out, num-drop, Small, bytes-num, same-refl}
+use Rattle.units.proofs.Laws.{size-range, length-bytes, field-here, num-part, num-out, num-drop, Small, bytes-num, same-refl}
 use Rattle.units.proofs.GuidLaws.{tail-part}
 use Rattle.mbr.proofs.PartRecord.{the-type as record-type, the-field as record-field}
 use Rattle.mbr.proofs.ProtectiveMbr.{the-type as mbr-type}
@@ -113,10 +113,6 @@ pub length-mbr : (m : ProtectiveMbr) → FitMbr m → length (mbrBytes m) ≡ 51
 length-mbr m f = simp (length-append, length-bytes) (omega (arith, f .boot, f .sign, f .count, length-records (m .partitions)))
 
 -- ---- the ways out of the calls
-
--- what is past the test `!good_block_size(..)`
-pub size-least : {r : Bool} (b : ℕ) → r ≡ goodSize b → not r ≡ false → 512 ≤ b
-size-least {r} b e f = ⊎-elim (λ p. omega arith) (λ p. omega arith) (good-size b (sym e ∙ not-false r f))
 
 pub image-short : (xs : List ℕ) (b : ℕ) → goodSize b ≡ true → length xs < b → imageParsed xs b ≡ refuse 2
 unfolding imageParsed inside
@@ -312,7 +308,7 @@ pub whole-reads-back : (xs : List ℕ) (m : ProtectiveMbr) {r : Answer ℕ} {ys 
     → (r ≡ accepted 512) × (imageParsed ys b ≡ accepted m)
 whole-reads-back xs m b f g h e =
     let l : length (mbrBytes m) ≡ 512 = length-mbr m f in
-    let k : 512 ≤ b = size-least {r = true} b (sym g) refl in
+    let k : 512 ≤ b = size-range b g .0 in
     let Y : List ℕ = sets xs 0 (mbrBytes m) in
     let n : length Y ≡ length xs = length-sets xs 0 (mbrBytes m) in
     let s : wholeStored xs m ≡ gives (accepted 512) Y = store-all xs 0 (mbrBytes m) 512 l (omega arith) in
@@ -335,7 +331,7 @@ tail-reads-back xs m b f g h e =
     let Y : List ℕ = sets xs 446 T in
     let Z : List ℕ = part Y 0 b in
     let l : length T ≡ 66 = length-tail ps (f .count) in
-    let k : 512 ≤ b = size-least {r = true} b (sym g) refl in
+    let k : 512 ≤ b = size-range b g .0 in
     let n : length Y ≡ length xs = length-sets xs 446 T in
     let s : tailStored xs m ≡ gives (accepted 66) Y = store-all xs 446 T 66 l (omega arith) in
     let i : b ≡ 446 + (66 + (b - 512)) = omega arith in
@@ -356,11 +352,6 @@ tail-reads-back xs m b f g h e =
           (num-part Y 0 b 444 2 (omega arith) ∙ num-out xs 446 T 444 2 (inl (omega arith)))
           (tail-here Z 0 m _ f q)),
     )
-
--- document 01's number of an answer
-abbrev numberOf : {A : Type 0} → Answer A → ℕ
-numberOf (accepted x) = 0
-numberOf (refused w) = w .number
 
 -- the tests of block 0 in their order: inside the image the length test holds
 never-12 : {A : Type 0} (g i q s : Bool) (x : A) → (i ≡ true → q ≡ true)

@@ -1,23 +1,15 @@
--- Worked examples of document 01, "MBR" and P14, computed from the definitions. Assumes nothing.
+-- The smallest inputs that document 01, "MBR", refuses, computed from the definitions. Assumes nothing.
 use mathlib.Core.Path.{_≡_, refl}
-use mathlib.Core.List.{List, [], _∷_}
+use mathlib.Core.List.{List}
 use Prim.Native.Nat.{ℕ}
 use lib.ListN.{replicate}
 use Rattle.units.specs.Answer.{refuse}
-use Rattle.units.specs.Bytes.{bytes, same}
+use Rattle.units.specs.Bytes.{same}
 use Rattle.units.specs.Places.{goodSize, inside}
 use Rattle.mbr.specs.declared.PartRecord.{PartRecord}
 use Rattle.mbr.specs.declared.ProtectiveMbr.{ProtectiveMbr}
-use Rattle.mbr.specs.Format.{recordBytes, protective}
 use Rattle.mbr.specs.Parsing.{recordParsed, mbrParsed, imageParsed, bytesRead}
 use Rattle.mbr.specs.Changing.{recordTaken, recordSet}
-
--- P14: the default protective record
-pub protective-bytes :
-    recordBytes (protective 0xFFFFFFFF)
-    ≡ 0x00 ∷ 0x00 ∷ 0x02 ∷ 0x00 ∷ 0xEE ∷ 0xFF ∷ 0xFF ∷ 0xFF ∷ 0x01 ∷ 0x00 ∷ 0x00 ∷ 0x00 ∷ 0xFF ∷ 0xFF ∷ 0xFF ∷ 0xFF ∷ []
-unfolding bytes
-protective-bytes = refl
 
 -- 1,024 is no block size, whatever the bytes are
 pub size-1024-buffer : (xs : List ℕ) → mbrParsed xs 1024 ≡ refuse 1

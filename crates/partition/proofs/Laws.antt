@@ -10,7 +10,7 @@ use native.Mathlib.Decide.{decLe}
 use native.Mathlib.Omega.{arith}
 use lib.Dec.{eqb, leb}
 use lib.ListN.{length, take, drop, getD, set, replicate, length-append, length-replicate, drop-of-length-le, List·getD-append, getD-replicate, take-append-drop}
-use lib.Seq.{drop-cons, sets, sets-eq, getD-take, getD-append-add, getD-drop, length-take-le, drop-at}
+use lib.Seq.{drop-cons, sets, sets-eq, getD-take, getD-append-add, getD-drop, length-take-le, take-at, drop-at}
 use borrow.Author.Needs.{length-unmapped, elem-fits-field}
 use borrow.Author.Tests.{eq-eqb, ne-eqb, eqb-true, le-leb, lt-leb}
 use denote.Shadow.{shadow}
@@ -21,10 +21,10 @@ use Rattle.units.specs.declared.Lba.{Lba}
 use Rattle.units.specs.declared.Guid.{Guid}
 use Rattle.units.specs.Answer.{pick}
 use Rattle.units.specs.Bytes.{part, le, num, bytes, allZero}
-use Rattle.units.specs.Guids.{guidBytes}
+use Rattle.units.specs.Guids.{guidAt, guidBytes}
 use Rattle.units.proofs.Lists.{length-part, part-step, part-split, sets-then, drop-sets, drop-next}
-use Rattle.units.proofs.Laws.{length-bytes, num-drop, num-here, field-here, Small, bytes-num, and-both}
-use Rattle.units.proofs.GuidLaws.{FitGuid, fit-guid-of, length-guid, guid-drop, guid-here, guid-bytes-back}
+use Rattle.units.proofs.Laws.{length-bytes, num-part, num-drop, num-here, field-here, Small, bytes-num, and-both}
+use Rattle.units.proofs.GuidLaws.{FitGuid, fit-guid-of, length-guid, guid-drop, guid-here, guid-part, guid-bytes-back}
 use Rattle.partition.specs.declared.Partition.{Partition}
 use Rattle.partition.specs.Format.{unitsAt, unitBytes, firstZero, cleared, entryAt, entryBytes, named, zeroPartition, fitted}
 use Rattle.partition.specs.Array.{present, presentFrom, firstSlot}
@@ -168,6 +168,11 @@ fit-more s vs v i h e =
 pub fit-none : (s vs : List ℕ) (at i : ℕ) → length vs ≤ i → sets s at (drop i vs) ≡ s
 fit-none s vs at i h = rw (drop-of-length-le vs h)
 
+-- a list of n is its own cut
+pub fitted-same : (n : ℕ) (xs : List ℕ) → length xs ≡ n → fitted n xs ≡ xs
+unfolding fitted
+fitted-same n xs e = take-at xs (replicate n 0) n e
+
 -- a byte of a part that is copied, and what is left of the part
 pub copied-more : (l xs : List ℕ) (at i n : ℕ) → i < n → at + n ≤ length xs
     → sets (set l i (getD xs (at + i) 0)) (i + 1) (part xs (at + (i + 1)) (n - (i + 1))) ≡ sets l i (part xs (at + i) (n - i))
@@ -267,6 +272,22 @@ entry-back p xs at h k =
     entry-drop (sets xs at (entryBytes p)) at
     ∙ rw (drop-sets xs at (entryBytes p) (omega arith)) (entry-here p (drop (at + length (entryBytes p)) xs) h)
 
+-- only the 128 bytes at the place count
+units-part : (n : ℕ) (xs : List ℕ) (a m o : ℕ) → o + 2 * n ≤ m → unitsAt n (part xs a m) o ≡ unitsAt n xs (a + o)
+unfolding unitsAt
+units-part zero xs a m o h = refl
+units-part (suc n) xs a m o h = rw (num-part xs a m o 2 (omega arith), units-part n xs a m (o + 2) (omega arith), add-assoc a o 2)
+
+pub entry-part : (xs : List ℕ) (at : ℕ) → entryAt (part xs at 128) 0 ≡ entryAt xs at
+entry-part xs at =
+    entry-eq
+    (guid-part xs at 128 0 (omega arith) ∙ ap (guidAt xs) (add-zero at))
+    (guid-part xs at 128 16 (omega arith))
+    (lba _ _ (num-part xs at 128 32 8 (omega arith)))
+    (lba _ _ (num-part xs at 128 40 8 (omega arith)))
+    (num-part xs at 128 48 8 (omega arith))
+    (ap cleared (units-part 36 xs at 128 56 (omega arith)))
+
 -- ---- what is read is stored back
 
 unit-bytes-back : (n : ℕ) (xs : List ℕ) (at : ℕ) → at + 2 * n ≤ length xs → Small xs → unitBytes (unitsAt n xs at) ≡ part xs at (2 * n)
@@ -327,10 +348,13 @@ unfolding presentFrom
 first-past xs at k zero = inl refl
 first-past xs at k (suc n) = go (present xs at k) (first-past xs at (k + 1) n)
   where
-    go : (t : Bool) → (presentFrom xs at (k + 1) n ≡ []) ⊎ (k + 1 < getD (presentFrom xs at (k + 1) n) 0 0) → (pick t ((k + 1) ∷ presentFrom xs at (k + 1) n) (presentFrom xs at (k + 1) n) ≡ []) ⊎ (k < getD (pick t ((k + 1) ∷ presentFrom xs at (k + 1) n) (presentFrom xs at (k + 1) n)) 0 0)
+    l : List ℕ
+    l = presentFrom xs at (k + 1) n
+
+    go : (t : Bool) → (l ≡ []) ⊎ (k + 1 < getD l 0 0) → (pick t ((k + 1) ∷ l) l ≡ []) ⊎ (k < getD (pick t ((k + 1) ∷ l) l) 0 0)
     go true i = inr (omega arith)
     go false (inl e) = inl e
-    go false (inr l) = inr (omega arith)
+    go false (inr h) = inr (omega arith)
 
 head-some : (l : List ℕ) → (getD l 0 0 ≡ 0 → ⊥) → take 1 l ≡ getD l 0 0 ∷ []
 head-some [] h = absurd (h refl)
@@ -440,14 +464,14 @@ pub lone-surrogate :
 unfolding num le bytes unitsAt unitBytes cleared firstZero
 lone-surrogate = (refl, refl)
 
+-- ---- a write to a device: none of document 01's five tests for 64 bits tells more than the one on the end
+
 or-last : (p q r s : Bool) → (p || (q || (r || (s || true)))) ≡ true
 or-last true q r s = refl
 or-last false true r s = refl
 or-last false false true s = refl
 or-last false false false true = refl
 or-last false false false false = refl
-
--- ---- a write to a device: none of document 01's five tests for 64 bits tells more than the one on the end
 
 module _ (start index b size count : ℕ) where
   pub end-passes : (2 ^ 64 ≤ start * b) ⊎ (2 ^ 64 ≤ index * size) ⊎ (2 ^ 64 ≤ start * b + index * size) ⊎ (2 ^ 64 ≤ count * size) → 2 ^ 64 ≤ start * b + index * size + count * size

@@ -1,5 +1,5 @@
 -- The ways out of the calls, one law for each: what the tests told, and what the definition then gives. No contract cites this file. Assumes nothing.
-use mathlib.Core.Path.{_≡_, refl, sym, _∙_}
+use mathlib.Core.Path.{_≡_, refl, sym, ap, _∙_}
 use mathlib.Core.Bool.{Bool, true, false, not, _||_}
 use mathlib.Core.List.{List, [], _∷_}
 use Prim.Native.Nat.{ℕ, _+_, _*_, _-_, _^_, _≤_, _<_}
@@ -9,18 +9,20 @@ use lib.ListN.{length, replicate}
 use lib.Seq.{sets}
 use borrow.Author.Tests.{eq-eqb, ne-eqb, lt-ltb, le-ltb, le-leb, lt-leb, eqb-true, eqb-false, leb-true, leb-false, ltb-false, not-false}
 use Rattle.units.specs.declared.BytePlace.{BytePlace}
-use Rattle.units.specs.Answer.{Why, Answer, accepted, refused, refuse, pick, andThen, beside, gives}
+use Rattle.units.specs.Answer.{Why, Answer, accepted, refused, refuse, pick, andThen, beside, Outcome, gives}
 use Rattle.units.specs.Bytes.{part, allZero}
-use Rattle.units.specs.Places.{goodSize, inside, insideOrEmpty, placeOf, arrayPlaceOf}
+use Rattle.units.specs.Places.{goodSize, inside, insideOrEmpty, placeOf, placeAfter, arrayPlaceOf}
 use Rattle.crc32.specs.Crc.{crc}
 use Rattle.header.specs.declared.Header.{Header}
 use Rattle.header.specs.Writing.{partsSum}
 use Rattle.header.proofs.Ways.{parts-by-place}
+use Rattle.units.proofs.Laws.{by-pick, pick-refused, pick-accepted, place-over, place-fits}
 use Rattle.partition.specs.Lengths.{sectorsLen, bytesLen}
-use Rattle.partition.specs.Device.{devicePlace, storedAt}
-use Rattle.partition.specs.Format.{entryAt, zeroPartition}
+use Rattle.partition.specs.Device.{runPlace, devicePlace, storedAt, entryStored}
+use Rattle.partition.specs.declared.Partition.{Partition}
+use Rattle.partition.specs.Format.{entryAt, entryBytes, named, zeroPartition, fitted}
 use Rattle.partition.specs.Array.{presentFrom, firstSlot, arrayFound, partitionFound, partitionRead, partitionCount, partitionAfter, readingOf}
-use Rattle.partition.proofs.Laws.{next-none, next-some}
+use Rattle.partition.proofs.Laws.{FitEntry, length-entry, fitted-same, entry-back, next-none, next-some}
 
 -- a range that is inside or empty, and is not empty
 pub inside-filled : (len at n : ℕ) → insideOrEmpty len at n ≡ true → (n ≡ 0 → ⊥) → at + n ≤ len
@@ -66,33 +68,70 @@ module _ (first last b : ℕ) {good : Bool} (g : good ≡ goodSize b) where
 
 -- ---- where an entry on a device stands
 
+-- two sums, one after the other, are one run of bytes
+module _ (base offset n : ℕ) where
+  pub run-far : {w : Why} → placeAfter base offset ≡ refused w → refused w ≡ runPlace base offset n
+  unfolding placeAfter runPlace
+  run-far e =
+      let r = pick-refused (leb (2 ^ 64) (base + offset)) 3 (record { 0 = base + offset }) e in
+      let l : 2 ^ 64 ≤ base + offset + n = omega (arith, leb-true (2 ^ 64) (base + offset) (r .0)) in
+      rw (le-leb (2 ^ 64) (base + offset + n) l) (ap refused (sym (r .1)))
+
+  module _ {p : BytePlace} (e : placeAfter base offset ≡ accepted p) where
+    at-offset : base + offset ≡ p .0
+    unfolding placeAfter
+    at-offset = ap (λ (q : BytePlace). q .0) (pick-accepted (leb (2 ^ 64) (base + offset)) 3 (record { 0 = base + offset }) e .1)
+
+    pub run-long : {w : Why} → placeAfter (p .0) n ≡ refused w → refused w ≡ runPlace base offset n
+    unfolding placeAfter runPlace
+    run-long f =
+        let r = pick-refused (leb (2 ^ 64) (p .0 + n)) 3 (record { 0 = p .0 + n }) f in
+        let l : 2 ^ 64 ≤ base + offset + n = omega (arith, leb-true (2 ^ 64) (p .0 + n) (r .0), at-offset) in
+        rw (le-leb (2 ^ 64) (base + offset + n) l) (ap refused (sym (r .1)))
+
+    pub run-at : {q : BytePlace} → placeAfter (p .0) n ≡ accepted q → accepted p ≡ runPlace base offset n
+    unfolding placeAfter runPlace
+    run-at f =
+        let r = pick-accepted (leb (2 ^ 64) (p .0 + n)) 3 (record { 0 = p .0 + n }) f in
+        let s = pick-accepted (leb (2 ^ 64) (base + offset)) 3 (record { 0 = base + offset }) e in
+        let l : base + offset + n < 2 ^ 64 = omega (arith, leb-false (2 ^ 64) (p .0 + n) (r .0), at-offset) in
+        rw (lt-leb (2 ^ 64) (base + offset + n) l) (ap accepted (sym (s .1)))
+
 module _ (start index b size count : ℕ) {good : Bool} (g : good ≡ goodSize b) where
   pub device-size : not good ≡ true → refuse 1 ≡ devicePlace start index b size count
-  unfolding devicePlace
+  unfolding devicePlace runPlace
   device-size t = rw (← g, t)
 
   module _ (t : not good ≡ false) where
     pub device-none : size ≡ 0 → refuse 7 ≡ devicePlace start index b size count
-    unfolding devicePlace
+    unfolding devicePlace runPlace
     device-none e = rw (← g, t, eq-eqb size 0 e)
 
     pub device-big : 4096 < size → refuse 7 ≡ devicePlace start index b size count
-    unfolding devicePlace
+    unfolding devicePlace runPlace
     device-big e = rw (← g, t, ne-eqb size 0 (λ z. omega arith), lt-ltb 4096 size e)
 
     module _ (z : size ≡ 0 → ⊥) (l : size ≤ 4096) where
       pub device-over : 2 ^ 64 ≤ start * b + index * size + count * size → refuse 3 ≡ devicePlace start index b size count
-      unfolding devicePlace
+      unfolding devicePlace runPlace
       device-over o = rw (← g, t, ne-eqb size 0 z, le-ltb 4096 size l, le-leb (2 ^ 64) (start * b + index * size + count * size) o)
 
-      pub device-at : start * b + index * size + count * size < 2 ^ 64 → accepted (record { 0 = start * b + index * size }) ≡ devicePlace start index b size count
-      unfolding devicePlace
-      device-at o = rw (← g, t, ne-eqb size 0 z, le-ltb 4096 size l, lt-leb (2 ^ 64) (start * b + index * size + count * size) o)
+      -- the block's place is refused, or a run of bytes stands at it
+      pub device-start : {w : Why} → placeOf start b ≡ refused w → refused w ≡ devicePlace start index b size count
+      device-start e =
+          let r = place-over start b (sym g ∙ not-false good t) e in
+          ap refused (sym (r .1)) ∙ device-over (omega (arith, leb-true (2 ^ 64) (start * b) (r .0)))
 
--- what holds of both picks holds of the pick; each side may use what the test says
-by-pick {ℓ ℓ′} : {X : Type ℓ} (P : X → Type ℓ′) (t : Bool) (a b : X) → (t ≡ true → P a) → (t ≡ false → P b) → P (pick t a b)
-by-pick P true a b f g = f refl
-by-pick P false a b f g = g refl
+      pub device-run : {p : BytePlace} → placeOf start b ≡ accepted p → runPlace (p .0) (index * size) (count * size) ≡ devicePlace start index b size count
+      unfolding devicePlace
+      device-run e =
+          let r = place-fits start b (sym g ∙ not-false good t) e in
+          let q : start * b ≡ _ = ap (λ (x : BytePlace). x .0) (r .1) in
+          rw (← g, t, ne-eqb size 0 z, le-ltb 4096 size l, q)
+
+      pub device-at : start * b + index * size + count * size < 2 ^ 64 → accepted (record { 0 = start * b + index * size }) ≡ devicePlace start index b size count
+      unfolding devicePlace runPlace
+      device-at o = rw (← g, t, ne-eqb size 0 z, le-ltb 4096 size l, lt-leb (2 ^ 64) (start * b + index * size + count * size) o)
 
 or-false : (p q : Bool) → (p || q) ≡ false → (p ≡ false) × (q ≡ false)
 or-false true q e = absurd (let z : _≡_ {A = ℕ} 0 1 = cc in omega arith)
@@ -107,7 +146,7 @@ pub record DeviceAt (start index b size count at : ℕ) : Type 0 where
   pub ends : at + count * size < 2 ^ 64
 
 pub device-tells : (start index b size count : ℕ) (p : BytePlace) → devicePlace start index b size count ≡ accepted p → DeviceAt start index b size count (p .0)
-unfolding devicePlace
+unfolding devicePlace runPlace
 device-tells start index b size count p =
     by-pick Q (not (goodSize b)) _ _ (λ _ e. never e)
     (λ g. by-pick Q (eqb size 0 || ltb 4096 size) _ _ (λ _ e. never e)
@@ -150,6 +189,40 @@ module _ (xs : List ℕ) {a : Answer BytePlace} (n : ℕ) where
       pub stored-inside : not r ≡ false → {ys : List ℕ} → ys ≡ sets xs (p .0) vs → storedAt xs a n vs ≡ gives (accepted n) ys
       unfolding storedAt insideOrEmpty
       stored-inside t y = rw (e, ne-eqb n 0 z, ← i, t, ← y)
+
+-- what an accepted store tells
+pub record StoredIn (xs : List ℕ) (a : Answer BytePlace) (n : ℕ) (vs : List ℕ) (m : ℕ) (ys : List ℕ) : Type 0 where
+  pub at : BytePlace
+  pub place : a ≡ accepted at
+  pub within : insideOrEmpty (length xs) (at .0) n ≡ true
+  pub answer : m ≡ n
+  pub image : ys ≡ sets xs (at .0) vs
+
+pub stored-tells : (xs : List ℕ) (a : Answer BytePlace) (n : ℕ) (vs : List ℕ) (m : ℕ) (ys : List ℕ) → storedAt xs a n vs ≡ gives (accepted m) ys → StoredIn xs a n vs m ys
+unfolding storedAt
+stored-tells xs (refused w) n vs m ys e = absurd (let s : refused w ≡ accepted m = ap (λ (o : Outcome (Answer ℕ)). o .answer) e in let z : _≡_ {A = ℕ} 0 1 = cc in omega arith)
+stored-tells xs (accepted p) n vs m ys e =
+    by-pick Q (not (insideOrEmpty (length xs) (p .0) n)) (gives (refuse 2) xs) (gives (accepted n) (sets xs (p .0) vs))
+    (λ _ f. absurd (let s : refuse 2 ≡ accepted m = ap (λ (o : Outcome (Answer ℕ)). o .answer) f in let z : _≡_ {A = ℕ} 0 1 = cc in omega arith))
+    (λ i f.
+    let s : accepted n ≡ accepted m = ap (λ (o : Outcome (Answer ℕ)). o .answer) f in
+    let k : m ≡ n = cc in
+    record { at = p; place = refl; within = not-false (insideOrEmpty (length xs) (p .0) n) i; answer = k; image = sym (ap (λ (o : Outcome (Answer ℕ)). o .image) f) })
+    e
+  where
+    Q : Outcome (Answer ℕ) → Type 0
+    Q o = o ≡ gives (accepted m) ys → StoredIn xs (accepted p) n vs m ys
+
+-- an entry that was written to a device reads back from its place, its name cleared
+pub written-back : (xs ys : List ℕ) (p : Partition) (index start b n : ℕ) → FitEntry p → entryStored xs p index start b 128 ≡ gives (accepted n) ys
+    → entryAt ys (start * b + index * 128) ≡ named p
+written-back xs ys p index start b n f e =
+    let s = stored-tells xs (devicePlace start index b 128 1) 128 (fitted 128 (entryBytes p)) n ys e in
+    let d = device-tells start index b 128 1 (s .at) (s .place) in
+    let l : s .at .0 + 128 ≤ length xs = inside-filled (length xs) (s .at .0) 128 (s .within) (λ z. omega arith) in
+    let g : fitted 128 (entryBytes p) ≡ entryBytes p = fitted-same 128 (entryBytes p) (length-entry p (f .long)) in
+    let i : ys ≡ sets xs (s .at .0) (entryBytes p) = s .image ∙ ap (sets xs (s .at .0)) g in
+    ap (λ (k : ℕ). entryAt ys k) (sym (d .place)) ∙ ap (λ (y : List ℕ). entryAt y (s .at .0)) i ∙ entry-back p xs (s .at .0) f l
 
 -- ---- where an array stands
 

@@ -12,13 +12,16 @@ use Rattle.units.specs.Places.{goodSize, insideOrEmpty}
 use Rattle.partition.specs.declared.Partition.{Partition}
 use Rattle.partition.specs.Format.{entryBytes, fitted}
 
+-- the place `offset` bytes after base, if `n` bytes from there on end below 2 ^ 64: 3
+unfoldable pub runPlace : ℕ → ℕ → ℕ → Answer BytePlace
+runPlace base offset n = pick (leb (2 ^ 64) (base + offset + n)) (refuse 3) (accepted (record { 0 = base + offset }))
+
 -- where entry `index` of an array of entries of `size` bytes starts, if `count` entries from there on end below 2 ^ 64
 unfoldable pub devicePlace : ℕ → ℕ → ℕ → ℕ → ℕ → Answer BytePlace
 devicePlace start index b size count =
     pick (not (goodSize b)) (refuse 1)
     (pick (eqb size 0 || ltb 4096 size) (refuse 7)
-    (pick (leb (2 ^ 64) (start * b + index * size + count * size)) (refuse 3)
-    (accepted (record { 0 = start * b + index * size }))))
+    (runPlace (start * b) (index * size) (count * size)))
 
 -- n bytes stored at a place that may have been refused: 2, unless there are none; the answer is n
 unfoldable pub storedAt : List ℕ → Answer BytePlace → ℕ → List ℕ → Outcome (Answer ℕ)

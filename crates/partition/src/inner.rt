@@ -20,7 +20,7 @@ ghost use Rattle.units.specs.Bytes.{part, allZero};
 ghost use Rattle.units.specs.Places.{insideOrEmpty};
 ghost use Rattle.units.specs.Meanings.{placedMeans};
 ghost use Rattle.partition.specs.Format.{unitsAt, unitBytes, firstZero, cleared, entryAt, entryBytes, fitted, zeroPartition};
-ghost use Rattle.partition.specs.Device.{devicePlace};
+ghost use Rattle.partition.specs.Device.{runPlace, devicePlace};
 ghost use Rattle.partition.specs.Array.{present, presentFrom, firstSlot, arrayFound, partitionFound};
 
 // The 36 units of a name, as they stand.
@@ -129,6 +129,19 @@ pub fn fit(out: &mut [u8], src: &[u8])
     }
 }
 
+// The place `offset` bytes after a place, if `n` bytes from there on end below 2^64: 3.
+fn run_place(base: BytePlace, offset: usize, n: usize) -> Placed
+    ensures { λ r. ⌜ placedMeans r ≡ runPlace (base .0) offset n ⌝ }
+{
+    match base.after(offset) {
+        Placed::Refused(w) => Placed::Refused(w),
+        Placed::At(at) => match at.after(n) {
+            Placed::Refused(w) => Placed::Refused(w),
+            Placed::At(_end) => Placed::At(at),
+        },
+    }
+}
+
 // Where entry `index` of an array that starts at a block stands, if `count` entries from there on end below 2^64: 1, 7, 3.
 pub fn device_place(start: Lba, index: u64, b: u64, entry_size: u32, count: u64) -> Placed
     ensures { λ r. ⌜ placedMeans r ≡ devicePlace (start .0) index b «entry_size» count ⌝ }
@@ -140,21 +153,16 @@ pub fn device_place(start: Lba, index: u64, b: u64, entry_size: u32, count: u64)
         return Placed::Refused(Refusal::BadEntrySize);
     }
     let size = entry_size as u64;
-    let most = 0xFFFF_FFFF_FFFF_FFFF;
-    if most / b < start.0 || most / size < index || most / size < count {
+    let most = 0xFFFF_FFFF_FFFF_FFFF / size;
+    if most < index || most < count {
         return Placed::Refused(Refusal::Overflow);
     }
-    let base = start.0 * b;
     let offset = index * size;
     let n = count * size;
-    if most - base < offset {
-        return Placed::Refused(Refusal::Overflow);
+    match start.place(b) {
+        Placed::Refused(w) => Placed::Refused(w),
+        Placed::At(base) => run_place(base, offset as usize, n as usize),
     }
-    let at = base + offset;
-    if most - at < n {
-        return Placed::Refused(Refusal::Overflow);
-    }
-    Placed::At(BytePlace(at as usize))
 }
 
 // The 128 bytes at place at.

@@ -1,1 +1,2 @@
+-- `Filling` has what the two functions that fill a buffer share.
 pub mod Filling

@@ -7,46 +7,12 @@ ghost use Prim.Native.Nat.{ℕ, _%_, _<_, _≤_};
 ghost use mathlib.Core.Path.{_≡_};
 ghost use lib.ListN.{length, getD, take};
 ghost use Rattle.crc32.specs.Crc.{crc};
-ghost use Rattle.io.specs.Digits.{digits, glyph};
 use libc::STDIN_FILENO;
 use libc::STDOUT_FILENO;
 
-// The last hexadecimal digit of x, in ASCII and in lower case.
-fn last_digit(x: u32) -> u8
-    ensures { λ r. ⌜ r ≡ glyph (x % 16) ⌝ }
-{
-    let d = x % 16;
-    if d < 10 { 48 + d as u8 } else { 87 + d as u8 }
-}
-
-// All eight hexadecimal digits of x, the most significant first and the zeros in front kept, so
-// that every sum has the same width.
-fn hex_digits(x: u32) -> [u8; 8]
-    ensures { λ r. ⌜ r ≡ digits 16 8 x ⌝ }
-{
-    let x1 = x / 16;
-    let x2 = x1 / 16;
-    let x3 = x2 / 16;
-    let x4 = x3 / 16;
-    let x5 = x4 / 16;
-    let x6 = x5 / 16;
-    let x7 = x6 / 16;
-    [
-        last_digit(x7),
-        last_digit(x6),
-        last_digit(x5),
-        last_digit(x4),
-        last_digit(x3),
-        last_digit(x2),
-        last_digit(x1),
-        last_digit(x),
-    ]
-}
-
 // Starts a line: the sum, and a space.
 fn print_sum(sum: u32) {
-    let text = hex_digits(sum);
-    io::write_all(STDOUT_FILENO, &text);
+    io::print_hex(STDOUT_FILENO, sum as u64, 8);
     io::write_all(STDOUT_FILENO, b" ");
 }
 

@@ -4,7 +4,7 @@ use mathlib.Core.Logic.{_⊎_, inl, inr, ⊎-elim}
 use mathlib.Core.Bool.{Bool, true, false, not, _&&_, _||_}
 use mathlib.Core.List.{List, [], _∷_, _++_}
 use Prim.Native.Nat.{ℕ, zero, suc, _+_, _*_, _-_, _/_, _%_, _^_, _≤_, _<_}
-use native.Mathlib.Nat.{eq-zero-or-pos, lt-of-not-le, pow-suc, pow-le-pow-right, div-lt-iff-lt-mul, le-div-iff-mul-le}
+use native.Mathlib.Nat.{eq-zero-or-pos, lt-of-not-le, pow-suc, pow-le-pow-right, div-lt-iff-lt-mul, le-div-iff-mul-le, mul-le-mul}
 use native.Mathlib.Decide.{decLe}
 use native.Mathlib.Omega.{arith}
 use lib.Bits.{bitOr, bitXor, or-add-and, and-le-l, and-le-r, xor-add-and, xor-self}
@@ -12,14 +12,21 @@ use lib.Dec.{eqb, ltb, leb}
 use lib.ListN.{length, take, drop, getD, set, replicate, length-append, drop-of-length-le}
 use lib.Seq.{drop-cons, drop-drop, sets, take-at, drop-at, take-nil, getD-drop}
 use borrow.Author.Tests.{lt-ltb, le-ltb, le-leb, lt-leb, eq-eqb, ne-eqb, leb-true, eqb-true, not-false}
+use Rattle.units.specs.declared.BytePlace.{BytePlace}
+use Rattle.units.specs.Answer.{Why, Answer, accepted, refused, refuse, pick}
 use Rattle.units.specs.Bytes.{part, le, num, bytes, total, laid, same, allZero}
-use Rattle.units.specs.Places.{goodSize, inside}
+use Rattle.units.specs.Places.{goodSize, inside, placeOf}
 use Rattle.units.proofs.Lists.{length-part, part-part, part-in, part-out, part-same, part-step, store-more, sets-then}
 
 -- ---- tests
 
 -- what a comparison in the code says of the same comparison in a definition
 pub ruleset tests = (lt-ltb, le-ltb, le-leb, lt-leb, eq-eqb, ne-eqb)
+
+-- what holds of both picks holds of the pick; each side may use what the test says
+pub by-pick {ℓ ℓ′} : {X : Type ℓ} (P : X → Type ℓ′) (t : Bool) (a b : X) → (t ≡ true → P a) → (t ≡ false → P b) → P (pick t a b)
+by-pick P true a b f g = f refl
+by-pick P false a b f g = g refl
 
 -- a number is zero or is not
 zero-or {ℓ} : {X : Type ℓ} (n : ℕ) → (n ≡ 0 → X) → ((n ≡ 0 → ⊥) → X) → X
@@ -54,9 +61,51 @@ pub good-size : (b : ℕ) → goodSize b ≡ true → (b ≡ 512) ⊎ (b ≡ 409
 unfolding goodSize
 good-size b e = ⊎-elim (λ p. inl (eqb-true b 512 p)) (λ p. inr (eqb-true b 4096 p)) (or-true (eqb b 512) (eqb b 4096) e)
 
--- what is past the test `!good_block_size(..)`
+-- they are from 512 to 4,096
+pub size-range : (b : ℕ) → goodSize b ≡ true → (512 ≤ b) × (b ≤ 4096)
+size-range b e = ⊎-elim (λ p. (omega arith, omega arith)) (λ p. (omega arith, omega arith)) (good-size b e)
+
+-- the same past the test `!good_block_size(..)`
+pub size-past : {r : Bool} (b : ℕ) → r ≡ goodSize b → not r ≡ false → (512 ≤ b) × (b ≤ 4096)
+size-past {r} b e f = size-range b (sym e ∙ not-false r f)
+
 pub size-yes : {r : Bool} (b : ℕ) → r ≡ goodSize b → not r ≡ false → 0 < b
-size-yes {r} b e f = ⊎-elim (λ p. omega arith) (λ p. omega arith) (good-size b (sym e ∙ not-false r f))
+size-yes b e f = let p = size-past b e f in omega arith
+
+-- one test and its refusal: what the answer tells
+module _ {A : Type 0} (t : Bool) (k : ℕ) (v : A) where
+  pub pick-refused : {w : Why} → pick t (refuse k) (accepted v) ≡ refused w → (t ≡ true) × (record { number = k; slot = 0 } ≡ w)
+  pick-refused {w} e = go t refl e
+    where
+      go : (u : Bool) → t ≡ u → pick {X = Answer A} u (refuse k) (accepted v) ≡ refused w → (t ≡ true) × (record { number = k; slot = 0 } ≡ w)
+      go true p q = (p, cc)
+      go false p q = absurd (let z : _≡_ {A = ℕ} 0 1 = cc in omega arith)
+
+  pub pick-accepted : {x : A} → pick t (refuse k) (accepted v) ≡ accepted x → (t ≡ false) × (v ≡ x)
+  pick-accepted {x} e = go t refl e
+    where
+      go : (u : Bool) → t ≡ u → pick {X = Answer A} u (refuse k) (accepted v) ≡ accepted x → (t ≡ false) × (v ≡ x)
+      go true p q = absurd (let z : _≡_ {A = ℕ} 0 1 = cc in omega arith)
+      go false p q = (p, cc)
+
+-- with a good block size, a place tells whether the product passes 64 bits
+module _ (lba b : ℕ) (good : goodSize b ≡ true) where
+  by-product : placeOf lba b ≡ pick (leb (2 ^ 64) (lba * b)) (refuse 3) (accepted (record { 0 = lba * b }))
+  unfolding placeOf
+  by-product = rw good
+
+  pub place-over : {w : Why} → placeOf lba b ≡ refused w → (leb (2 ^ 64) (lba * b) ≡ true) × (record { number = 3; slot = 0 } ≡ w)
+  place-over e = pick-refused (leb (2 ^ 64) (lba * b)) 3 (record { 0 = lba * b }) (sym by-product ∙ e)
+
+  pub place-fits : {p : BytePlace} → placeOf lba b ≡ accepted p → (leb (2 ^ 64) (lba * b) ≡ false) × (record { 0 = lba * b } ≡ p)
+  place-fits e = pick-accepted (leb (2 ^ 64) (lba * b)) 3 (record { 0 = lba * b }) (sym by-product ∙ e)
+
+-- the product of two numbers of 32 bits fits 64
+pub product-32 : (n m : ℕ) → n < 2 ^ 32 → m < 2 ^ 32 → n * m < 2 ^ 64
+product-32 n m h k =
+    let p : n ≤ 2 ^ 32 - 1 = omega arith in
+    let q : m ≤ 2 ^ 32 - 1 = omega arith in
+    omega (arith, mul-le-mul p q)
 
 -- a product that fits 64 bits, and one that does not
 pub product : (n m : ℕ) → 0 < m → n ≤ (2 ^ 64 - 1) / m → n * m < 2 ^ 64
@@ -120,27 +169,6 @@ length-bytes (suc n) x = ap suc (length-bytes n (x / 256))
 -- without its first byte a number fits one byte less
 fits-next : (n x : ℕ) → x < 256 ^ suc n → x / 256 < 256 ^ n
 fits-next n x h = div-lt-iff-lt-mul {k = 256} {x = x} {y = 256 ^ n} (omega arith) .1 (rw (pow-suc 256 n) at h)
-
--- whether a number fits n bytes, as the code tests it: one byte after the other, until none is left or the rest is zero
-pub fits-more : (i n v : ℕ) → i < n → ltb (v / 256) (256 ^ (n - (i + 1))) ≡ ltb v (256 ^ (n - i))
-fits-more i n v h =
-    let a : n - i ≡ suc (n - (i + 1)) = omega arith in
-    let p : ℕ = 256 ^ (n - (i + 1)) in
-    let d = div-lt-iff-lt-mul {k = 256} {x = v} {y = p} (omega arith) in
-    rw (a, pow-suc 256 (n - (i + 1)))
-    (split p (v / 256)
-    (λ q. le-ltb (v / 256) p q ∙ sym (le-ltb v (p * 256) (omega arith)))
-    (λ q. lt-ltb (v / 256) p q ∙ sym (lt-ltb v (p * 256) (d .0 q))))
-
-pub fits-none : (v k : ℕ) → k ≡ 0 → eqb v 0 ≡ ltb v (256 ^ k)
-fits-none v k e =
-    rw e (zero-or v (λ z. eq-eqb v 0 z ∙ sym (lt-ltb v 1 (omega arith))) (λ z. ne-eqb v 0 z ∙ sym (le-ltb v 1 (zero-or v (λ y. absurd (z y)) (λ y. omega arith)))))
-
-pub fits-zero : (v k : ℕ) → v ≡ 0 → eqb v 0 ≡ ltb v (256 ^ k)
-fits-zero v k e =
-    let l : 0 ≤ k = omega arith in
-    let p : 256 ^ 0 ≤ 256 ^ k = pow-le-pow-right (omega arith) l in
-    eq-eqb v 0 e ∙ sym (lt-ltb v (256 ^ k) (omega arith))
 
 -- ---- a number in a part, inside a store and beside it
 

@@ -15,6 +15,11 @@ pub data Answer (A : Type 0) : Type 0 where
   accepted : A → Answer A
   refused : Why → Answer A
 
+-- document 01's number of an answer: 0 where it accepts
+abbrev pub numberOf : {A : Type 0} → Answer A → ℕ
+numberOf (accepted x) = 0
+numberOf (refused w) = w .number
+
 -- refused by a number that carries no slot
 abbrev pub refuse : {A : Type 0} → ℕ → Answer A
 refuse n = refused (record { number = n; slot = 0 })

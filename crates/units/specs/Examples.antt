@@ -1,4 +1,4 @@
--- Worked examples of document 01 and of the UEFI Specification, computed from the definitions. Assumes nothing.
+-- Worked examples of the UEFI Specification and of places, computed from the definitions. Assumes nothing.
 use mathlib.Core.Path.{_≡_, refl}
 use mathlib.Core.List.{List, [], _∷_}
 use mathlib.Core.Bool.{false}
@@ -8,18 +8,6 @@ use Rattle.units.specs.Answer.{accepted, refuse}
 use Rattle.units.specs.Bytes.{le, num, bytes}
 use Rattle.units.specs.Places.{goodSize, inside, placeOf}
 use Rattle.units.specs.Guids.{guidAt, guidBytes}
-
--- P13: the bytes 00 to 0F
-pub guid-in-order :
-    guidAt (0 ∷ 1 ∷ 2 ∷ 3 ∷ 4 ∷ 5 ∷ 6 ∷ 7 ∷ 8 ∷ 9 ∷ 10 ∷ 11 ∷ 12 ∷ 13 ∷ 14 ∷ 15 ∷ []) 0
-    ≡ record {
-      «time_low» = 0x03020100;
-      «time_mid» = 0x0504;
-      «time_high» = 0x0706;
-      tail = record { 0 = 8; 1 = 9; 2 = 10; 3 = 11; 4 = 12; 5 = 13; 6 = 14; 7 = 15 };
-    }
-unfolding num le
-guid-in-order = refl
 
 -- the type of the EFI System Partition, C12A7328-F81F-11D2-BA4B-00A0C93EC93B (UEFI 2.10, table 5.7), and its bytes on the card
 abbrev system : Guid

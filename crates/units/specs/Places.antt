@@ -39,6 +39,6 @@ blockOf at b = pick (not (goodSize b)) (refuse 1) (accepted (record { 0 = at / b
 unfoldable pub arrayPlaceOf : ℕ → ℕ → Answer ℕ
 arrayPlaceOf slot count = pick (ltb slot 1 || ltb count slot) (refuse 18) (accepted (slot - 1))
 
--- the slot at an array place: 3 if it passes 32 bits
-unfoldable pub slotOf : ℕ → Answer Slot
-slotOf place = pick (leb (2 ^ 32) (place + 1)) (refuse 3) (accepted (record { 0 = place + 1 }))
+-- the slot at a place of an array of count entries: 18 for a place that the array does not have
+unfoldable pub slotOf : ℕ → ℕ → Answer Slot
+slotOf place count = pick (leb count place) (refuse 18) (accepted (record { 0 = place + 1 }))

@@ -1,14 +1,14 @@
 // Leaves for our own crates: each `requires` is a range that its caller has tested. No public calls.
 use crate::Guid;
+use crate::Number;
 use crate::Tail;
 use crate::Width;
 ghost use mathlib.Core.Path.{_≡_};
 ghost use Prim.Native.Nat.{_+_, _^_, _≤_, _<_};
-ghost use lib.Dec.{ltb};
 ghost use lib.ListN.{length, replicate};
 ghost use lib.Seq.{sets};
 ghost use Rattle.units.specs.Bytes.{part, num, bytes, total, laid, same, allZero};
-ghost use Rattle.units.specs.Numbers.{widthOf};
+ghost use Rattle.units.specs.Numbers.{widthOf, bytesIn, valueIn};
 ghost use Rattle.units.specs.Guids.{tailAt, tailBytes, guidAt, guidBytes};
 
 // The bytes of a width.
@@ -22,17 +22,25 @@ pub fn width_bytes(width: Width) -> usize
     }
 }
 
-// Whether x fits n bytes.
-pub fn fits(x: u64, n: usize) -> bool
-    ensures { λ r. ⌜ r ≡ ltb x (256 ^ n) ⌝ }
+// The bytes that a number takes.
+pub fn number_bytes(x: Number) -> usize
+    ensures { λ r. ⌜ (r ≡ bytesIn x) × (r ≤ 8) ⌝ }
 {
-    let mut v = x;
-    let mut i = 0;
-    while i < n && 0 < v {
-        v /= 256;
-        i += 1;
+    match x {
+        Number::Two(_v) => 2,
+        Number::Four(_v) => 4,
+        Number::Eight(_v) => 8,
     }
-    v == 0
+}
+
+pub fn number_value(x: Number) -> u64
+    ensures { λ r. ⌜ r ≡ valueIn x ⌝ }
+{
+    match x {
+        Number::Two(v) => v as u64,
+        Number::Four(v) => v as u64,
+        Number::Eight(v) => v,
+    }
 }
 
 // The number in the n bytes at place at, least byte first.

@@ -3,11 +3,10 @@
 pub mod inner;
 
 ghost use mathlib.Core.Path.{_≡_};
-ghost use lib.ListN.{length};
 ghost use Rattle.units.specs.Answer.{Ends};
 ghost use Rattle.units.specs.Refusals.{number};
 ghost use Rattle.units.specs.Places.{goodSize, inside, placeOf, placeAfter, blockOf, arrayPlaceOf, slotOf};
-ghost use Rattle.units.specs.Numbers.{widthOf, numberRead, numberStored};
+ghost use Rattle.units.specs.Numbers.{widthOf, bytesIn, valueIn, numberRead, numberStored};
 ghost use Rattle.units.specs.Guids.{guidRead, guidStored, isNil, nilGuid};
 ghost use Rattle.units.specs.Meanings.{placedMeans, blockMeans, arrayPlaceMeans, slotMeans, numberMeans, guidMeans, storedMeans};
 
@@ -176,12 +175,12 @@ impl Slot {
         ArrayPlace::At(slot - 1)
     }
 
-    // The slot at an array place: 3.
-    pub fn at_array_place(place: u32) -> SlotFound
-        ensures { λ r. ⌜ slotMeans r ≡ slotOf place ⌝ }
+    // The slot at a place of an array of count entries: 18.
+    pub fn at_array_place(place: u32, count: u32) -> SlotFound
+        ensures { λ r. ⌜ slotMeans r ≡ slotOf place count ⌝ }
     {
-        if place == 0xFFFF_FFFF {
-            return SlotFound::Refused(Refusal::Overflow);
+        if count <= place {
+            return SlotFound::Refused(Refusal::BadSlot);
         }
         SlotFound::At(Slot(place + 1))
     }
@@ -192,6 +191,13 @@ pub enum Width {
     Two,
     Four,
     Eight,
+}
+
+// A number that takes so many bytes.
+pub enum Number {
+    Two(u16),
+    Four(u32),
+    Eight(u64),
 }
 
 pub enum NumberRead {
@@ -217,19 +223,17 @@ pub fn read_number(s: &[u8], at: BytePlace, width: Width) -> NumberRead
     NumberRead::Read(inner::num_at(s, a, n))
 }
 
-// Stores a number in the bytes at a place, least byte first: 3 if it does not fit the width, 2.
-pub fn store_number(s: &mut [u8], at: BytePlace, width: Width, x: u64) -> Stored
-    ensures { λ r. ⌜ Ends (numberStored (now (s .entry)) (at .0) (widthOf width) x) (storedMeans r) (now (s .exit)) ⌝ }
+// Stores a number in the bytes at a place, least byte first: 2.
+pub fn store_number(s: &mut [u8], at: BytePlace, x: Number) -> Stored
+    ensures { λ r. ⌜ Ends (numberStored (now (s .entry)) (at .0) (bytesIn x) (valueIn x)) (storedMeans r) (now (s .exit)) ⌝ }
 {
-    let n = inner::width_bytes(width);
+    let n = inner::number_bytes(x);
+    let v = inner::number_value(x);
     let a = at.0;
-    if !inner::fits(x, n) {
-        return Stored::Refused(Refusal::Overflow);
-    }
     if !is_inside(s.len(), at, n) {
         return Stored::Refused(Refusal::Short);
     }
-    inner::put_num(s, a, n, x);
+    inner::put_num(s, a, n, v);
     Stored::Bytes(n)
 }
 

@@ -3,7 +3,8 @@ use native.Mathlib.Omega.{arith}
 use borrow.Author.Tests.{lt-ltb}
 use borrow.Author.Needs.{needs}
 use Rattle.header.specs.Reading.{backupBlock}
-use Rattle.header.proofs.Ways.{size-past, backup-found}
+use Rattle.units.proofs.Laws.{size-past}
+use Rattle.header.proofs.Ways.{backup-found}
 use Rattle.header.proofs.find_backup_lba.Statement.{statement}
 use Rattle.header.proofs.find_backup_lba.Tie as tie
 

@@ -3,9 +3,9 @@ use mathlib.Core.Path.{sym, ap, _∙_}
 use native.Mathlib.Omega.{arith}
 use borrow.Author.Needs.{needs}
 use Rattle.units.specs.Meanings.{placedMeans}
-use Rattle.units.proofs.Laws.{inside-yes}
+use Rattle.units.proofs.Laws.{product-32, inside-yes}
 use Rattle.header.proofs.Laws.{fit-header-of}
-use Rattle.header.proofs.Ways.{product-32, parts-refused, parts-none, parts-outside, parts-inside}
+use Rattle.header.proofs.Ways.{parts-refused, parts-none, parts-outside, parts-inside}
 use Rattle.header.proofs.inner.parts_sum.Statement.{statement}
 use Rattle.header.proofs.inner.parts_sum.Tie as tie
 

@@ -4,9 +4,9 @@ use native.Mathlib.Omega.{arith}
 use borrow.Author.Needs.{needs}
 use Rattle.units.specs.Answer.{ends}
 use Rattle.units.specs.Meanings.{placedMeans}
-use Rattle.units.proofs.Laws.{inside-yes}
+use Rattle.units.proofs.Laws.{size-past, inside-yes}
 use Rattle.header.specs.Meanings.{sumMeans}
-use Rattle.header.proofs.Ways.{size-past, write-size, write-wrong, write-parts, write-over, write-outside, write-stored}
+use Rattle.header.proofs.Ways.{write-size, write-wrong, write-parts, write-over, write-outside, write-stored}
 use Rattle.header.proofs.inner.write_header.Statement.{statement}
 use Rattle.header.proofs.inner.write_header.Tie as tie
 

@@ -3,7 +3,7 @@ use native.Mathlib.Omega.{arith}
 use borrow.Author.Tests.{eq-eqb, ne-eqb}
 use Rattle.units.specs.Answer.{beside}
 use Rattle.mbr.specs.Parsing.{mbrParsed}
-use Rattle.mbr.proofs.Laws.{size-least}
+use Rattle.units.proofs.Laws.{size-past}
 use borrow.Author.Needs.{needs}
 use Rattle.mbr.proofs.ProtectiveMbr.from_bytes.Statement.{statement}
 use Rattle.mbr.proofs.ProtectiveMbr.from_bytes.Tie as tie
@@ -29,7 +29,7 @@ slice-aggregate-same-at : tie.Need-slice-aggregate-same-at
 slice-aggregate-same-at c = search needs
 
 same-at-requires : tie.Need-same-at-requires
-same-at-requires c κs = let l = size-least _ (c .before .before .before .good-block-size .ensures) (c .before .before .if1 .left) in omega arith
+same-at-requires c κs = let l = size-past _ (c .before .before .before .good-block-size .ensures) (c .before .before .if1 .left) in omega arith
 
 no-mbr-requires-3 : tie.Need-no-mbr-requires-3
 no-mbr-requires-3 c κs = search needs
@@ -47,7 +47,7 @@ returns-3 c =
     )
 
 mbr-at-requires : tie.Need-mbr-at-requires
-mbr-at-requires c κs = let l = size-least _ (c .before .before .before .before .before .good-block-size .ensures) (c .before .before .before .before .if1 .left) in omega arith
+mbr-at-requires c κs = let l = size-past _ (c .before .before .before .before .before .good-block-size .ensures) (c .before .before .before .before .if1 .left) in omega arith
 
 returns-4 : tie.Need-returns-4
 unfolding mbrParsed beside

@@ -40,7 +40,16 @@ clear-name-requires : tie.Need-clear-name-requires
 clear-name-requires c κs = search needs
 
 returns : tie.Need-returns
-returns c = cc
+returns c =
+    rw (
+      c .before .before .before .before .before .before .guid-at .ensures,
+      c .before .before .before .before .before .guid-at2 .ensures,
+      c .before .before .before .before .u64-at .ensures,
+      c .before .before .before .u64-at2 .ensures,
+      c .before .before .u64-at3 .ensures,
+      c .clear-name .ensures,
+      c .before .units-at .ensures,
+    )
 
 pub entry-at-spec : {M : Type 1} → statement M
 entry-at-spec =

@@ -1,4 +1,4 @@
--- `units::all_zero` meets its contract. The invariant: what was or-ed is zero and the rest is all zero exactly where the whole part is all zero.
+-- `units::inner::all_zero` meets its contract. The invariant: what was or-ed is zero and the rest is all zero exactly where the whole part is all zero.
 -- Assumes nothing.
 use mathlib.Core.Path.{_≡_, sym, _∙_}
 use mathlib.Core.Bool.{_&&_}

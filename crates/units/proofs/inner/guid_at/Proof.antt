@@ -1,4 +1,4 @@
--- `units::guid_at` meets its contract: each field is read at its place. Assumes nothing.
+-- `units::inner::guid_at` meets its contract: each field is read at its place. Assumes nothing.
 use borrow.Author.Needs.{needs}
 use Rattle.units.proofs.inner.guid_at.Statement.{statement}
 use Rattle.units.proofs.inner.guid_at.Tie as tie

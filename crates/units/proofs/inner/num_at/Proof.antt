@@ -1,4 +1,4 @@
--- `units::num_at` meets its contract. The invariant: v is the number in the bytes from place at + i on, and is as small as their count says.
+-- `units::inner::num_at` meets its contract. The invariant: v is the number in the bytes from place at + i on, and is as small as their count says.
 -- The measure is i. Assumes nothing.
 use mathlib.Core.Path.{_≡_, sym}
 use Prim.Native.Nat.{_+_, _-_, _≤_, _<_, _^_}

@@ -1,4 +1,4 @@
--- `units::put_bytes` meets its contract. The invariant: storing what is left of src gives what storing all of it gives. Assumes nothing.
+-- `units::inner::put_bytes` meets its contract. The invariant: storing what is left of src gives what storing all of it gives. Assumes nothing.
 use mathlib.Core.Path.{_≡_, _∙_}
 use Prim.Native.Nat.{_+_, _-_, _≤_}
 use native.Mathlib.Nat.{add-zero}

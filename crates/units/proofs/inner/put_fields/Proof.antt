@@ -1,4 +1,4 @@
--- `units::put_fields` meets its contract. The invariant: the fields that are left, laid from place p on, give what all of them laid from at on give,
+-- `units::inner::put_fields` meets its contract. The invariant: the fields that are left, laid from place p on, give what all of them laid from at on give,
 -- and they end where all end. The measure is what is left of the widths. Assumes nothing.
 use mathlib.Core.Path.{_≡_, refl, sym, _∙_}
 use Prim.Native.Nat.{_+_, _-_, _≤_}

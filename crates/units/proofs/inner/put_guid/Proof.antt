@@ -1,4 +1,4 @@
--- `units::put_guid` meets its contract: four stores, each where the one before it ends, are one store. Assumes nothing.
+-- `units::inner::put_guid` meets its contract: four stores, each where the one before it ends, are one store. Assumes nothing.
 use mathlib.Core.List.{List, _++_, append-assoc}
 use Prim.Native.Nat.{ℕ, _+_}
 use native.Mathlib.Omega.{arith}

@@ -1,4 +1,4 @@
--- `units::put_num` meets its contract. The invariant: storing what is left of v from place at + i on gives what storing all of x gives.
+-- `units::inner::put_num` meets its contract. The invariant: storing what is left of v from place at + i on gives what storing all of x gives.
 -- The measure is what is left of n. Assumes nothing.
 use mathlib.Core.Path.{_≡_, sym, _∙_}
 use Prim.Native.Nat.{_+_, _-_, _≤_}

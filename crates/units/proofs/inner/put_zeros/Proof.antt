@@ -1,4 +1,4 @@
--- `units::put_zeros` meets its contract. The invariant: storing the zeros that are left gives what storing them all gives. Assumes nothing.
+-- `units::inner::put_zeros` meets its contract. The invariant: storing the zeros that are left gives what storing them all gives. Assumes nothing.
 use mathlib.Core.Path.{_≡_, _∙_}
 use Prim.Native.Nat.{_+_, _-_, _≤_}
 use native.Mathlib.Nat.{add-zero, sub-zero}

@@ -1,4 +1,4 @@
--- `units::same_at` meets its contract. The invariant: what was or-ed is zero and the rest is the same exactly where the whole part is the same.
+-- `units::inner::same_at` meets its contract. The invariant: what was or-ed is zero and the rest is the same exactly where the whole part is the same.
 -- Assumes nothing.
 use mathlib.Core.Path.{_≡_, refl, sym, _∙_}
 use mathlib.Core.Bool.{_&&_}

@@ -6,7 +6,8 @@ use borrow.Author.Needs.{needs}
 use Rattle.units.specs.Answer.{accepted}
 use Rattle.header.specs.declared.builder.HeaderBuilder.{HeaderBuilder}
 use Rattle.header.specs.Building.{beforeArray, built, builtWith}
-use Rattle.header.proofs.BuilderLaws.{firstOf, lastOf, startOf, header-same, product-32, size-bounds, built-1, built-9, built-3, built-with, with-early, with-none, with-far, with-header}
+use Rattle.units.proofs.Laws.{size-past, product-32}
+use Rattle.header.proofs.BuilderLaws.{firstOf, lastOf, startOf, header-same, built-1, built-9, built-3, built-with, with-early, with-none, with-far, with-header}
 use Rattle.header.proofs.builder.HeaderBuilder.build.Statement.{statement}
 use Rattle.header.proofs.builder.HeaderBuilder.build.Tie as tie
 
@@ -46,8 +47,8 @@ small c = let h = c .if3 .left in omega arith
 blocks-for-requires : tie.Need-blocks-for-requires
 blocks-for-requires c κs =
     let k = c .before .before .before .before in
-    let z = size-bounds (size c) (k .before .before .good-block-size .ensures) (k .before .if1 .left) in
-    (small c, z .0, z .1)
+    let z = size-past (size c) (k .before .before .good-block-size .ensures) (k .before .if1 .left) in
+    (small c, omega arith, z .1)
 
 -- all depends on the array's blocks
 known : (c : tie.After-blocks-for) → built (builder (c .before)) (size (c .before)) ≡ builtWith (builder (c .before)) (c .blocks-for .result)
