@@ -16,16 +16,17 @@ use Rattle.partition.specs.Array.{Found}
 use Rattle.card.specs.Lens.{Beside}
 use Rattle.card.specs.Entries.{entry, used, firstOf, lastOf, clash}
 use Rattle.card.specs.Calls.{layOutcome}
-use Rattle.card.specs.History.{GuidHeld, Op, run, emptySlot, told, Within, Apart, Card, Told}
+use Rattle.card.specs.Listing.{countAnswer}
+use Rattle.card.specs.History.{GuidHeld, Op, run, emptySlot, told, filledFrom, Within, Apart, Card, Told}
 use Rattle.card.proofs.Orders.{split, both}
 use Rattle.card.proofs.Room.{Room}
 use Rattle.card.proofs.EntryLaws.{Inside, ok-used}
 use Rattle.card.proofs.Good.{room-ok}
 use Rattle.card.proofs.State.{judged-none, state-check}
-use Rattle.card.proofs.Records.{record-first, record-last}
-use Rattle.card.proofs.Steps.{Holds, steps, lay-holds}
+use Rattle.card.proofs.Steps.{Holds, slot-first, slot-last, steps, lay-holds}
 use Rattle.card.proofs.Readers.{reads-front, reads-back}
 use Rattle.card.proofs.Others.{demand-3-bytes}
+use Rattle.card.proofs.Listings.{lists-held, counts-held}
 
 -- two used entries that do not clash have no block in common
 pub apart-disjoint : (e f : List ℕ) → used e ≡ true → used f ≡ true → clash e f ≡ false → (lastOf e < firstOf f) ⊎ (lastOf f < firstOf e)
@@ -43,21 +44,14 @@ apart-disjoint e f u v h =
 -- ---- a card by what its slots hold
 
 module _ {B : ℕ} {xs : List ℕ} {bs : List ℕ} {slots : ℕ → Found} (h : Holds B (length xs) bs slots xs) where
-  -- the blocks of an entry are those of its record
-  first-is : (s : ℕ) → 1 ≤ s → s ≤ 128 → firstOf (entry (h .array) (s - 1)) ≡ slots s .partition .«first_lba» .0
-  first-is s a b = ap firstOf (h .places s a b) ∙ record-first (slots s .partition) (h .kept s .held .fields .first)
-
-  last-is : (s : ℕ) → 1 ≤ s → s ≤ 128 → lastOf (entry (h .array) (s - 1)) ≡ slots s .partition .«last_lba» .0
-  last-is s a b = ap lastOf (h .places s a b) ∙ record-last (slots s .partition) (h .kept s .held .fields .last)
-
   used-is : (s : ℕ) → 1 ≤ s → s ≤ 128 → slots s .present ≡ true → used (entry (h .array) (s - 1)) ≡ true
   used-is s a b t = ap used (h .places s a b) ∙ h .kept s .seen ∙ t
 
   slot-within : (s : ℕ) → 1 ≤ s → s ≤ 128 → slots s .present ≡ true → Within B (length xs) (slots s .partition)
   slot-within s a b t =
       let i : Inside B (length xs) (entry (h .array) (s - 1)) = ok-used B (length xs) _ (h .state .entries .each (s - 1) (omega arith)) (used-is s a b t) in
-      let f = first-is s a b in
-      let l = last-is s a b in
+      let f = slot-first h s a b in
+      let l = slot-last h s a b in
       record { order = omega (arith, i .order); low = omega (arith, i .low); high = omega (arith, i .high) }
 
   slots-apart : (s t : ℕ) → 1 ≤ s → s ≤ 128 → 1 ≤ t → t ≤ 128 → (s ≡ t → ⊥) → slots s .present ≡ true → slots t .present ≡ true
@@ -68,14 +62,15 @@ module _ {B : ℕ} {xs : List ℕ} {bs : List ℕ} {slots : ℕ → Found} (h : 
     where
       from : (lastOf (entry (h .array) (s - 1)) < firstOf (entry (h .array) (t - 1))) ⊎ (lastOf (entry (h .array) (t - 1)) < firstOf (entry (h .array) (s - 1)))
           → Apart (slots s .partition) (slots t .partition)
-      from (inl q) = inl (omega (arith, last-is s a b, first-is t c d))
-      from (inr q) = inr (omega (arith, last-is t c d, first-is s a b))
+      from (inl q) = inl (omega (arith, slot-last h s a b, slot-first h t c d))
+      from (inr q) = inr (omega (arith, slot-last h t c d, slot-first h s a b))
 
 pub card-of : {B : ℕ} {xs : List ℕ} {slots : ℕ → Found} (g : Guid) → Holds B (length xs) (guidBytes g) slots xs → GuidHeld g → length xs < 2 ^ 64 → Card B g slots xs
 card-of {B} {xs} {slots} g h gh fits =
     let r : Room B (length xs) = room-ok B (length xs) (h .state .room) in
     record {
       check = judged-none tt _ 0 (state-check (h .state));
+      listing = judged-none _ _ 0 (state-check (h .state)) ∙ ap accepted (lists-held h);
       primary = reads-front B xs g slots h gh fits;
       backup = reads-back B xs g slots h gh fits;
       ground = omega (arith, r .first);
@@ -87,21 +82,25 @@ card-of {B} {xs} {slots} g h gh fits =
 -- ---- demand 3
 
 module _ (B : ℕ) (xs : List ℕ) (g : Guid) (os : List Op) (a : layOutcome B xs g .answer ≡ accepted tt) where
-  pub run-holds : Holds B (length xs) (guidBytes g) (λ (s : ℕ). told B os (layOutcome B xs g .image) s emptySlot) (run B os (layOutcome B xs g .image))
+  run-holds : Holds B (length xs) (guidBytes g) (λ (s : ℕ). told B os (layOutcome B xs g .image) s emptySlot) (run B os (layOutcome B xs g .image))
   run-holds = steps os (layOutcome B xs g .image) (λ (s : ℕ). emptySlot) (lay-holds B xs g a)
 
   pub run-length : length (run B os (layOutcome B xs g .image)) ≡ length xs
   run-length = run-holds .state .size
+
+  holds : Holds B (length (run B os (layOutcome B xs g .image))) (guidBytes g) (λ (s : ℕ). told B os (layOutcome B xs g .image) s emptySlot) (run B os (layOutcome B xs g .image))
+  holds =
+      subst (λ (m : ℕ). Holds B m (guidBytes g) (λ (s : ℕ). told B os (layOutcome B xs g .image) s emptySlot) (run B os (layOutcome B xs g .image))) (sym run-length) run-holds
 
   pub demand-3 : GuidHeld g → length xs < 2 ^ 64 → Told B g os (layOutcome B xs g .image)
   demand-3 gh fits =
       let l : length (layOutcome B xs g .image) ≡ length xs = lay-holds B xs g a .state .size in
       record {
         size = run-length ∙ sym l;
-        card =
-            card-of g
-            (subst (λ (m : ℕ). Holds B m (guidBytes g) (λ (s : ℕ). told B os (layOutcome B xs g .image) s emptySlot) (run B os (layOutcome B xs g .image))) (sym run-length) run-holds)
-            gh
-            (omega (arith, run-length));
+        card = card-of g holds gh (omega (arith, run-length));
         bytes = λ i o. demand-3-bytes B xs g os a i (subst (λ (m : ℕ). Beside B m i) l o);
       }
+
+  -- the count is that of the filled slots
+  pub demand-3-count : countAnswer B (run B os (layOutcome B xs g .image)) ≡ accepted (length (filledFrom (λ (s : ℕ). told B os (layOutcome B xs g .image) s emptySlot) 0 128))
+  demand-3-count = judged-none _ _ 0 (state-check (holds .state)) ∙ ap accepted (counts-held holds)

@@ -13,10 +13,10 @@ pub mod Records
 pub mod Steps
 pub mod Readers
 pub mod Others
+pub mod Listings
 pub mod Demand
 pub mod Stores
 pub mod Bridge
 pub mod ReadCheck
 pub mod Corollaries
-pub mod Listings
 pub mod Ways

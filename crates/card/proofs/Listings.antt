@@ -1,27 +1,23 @@
--- The laws of the listing: it may be made on the image, and after a history it lists exactly the slots that the history fills, with their records.
+-- The laws of the listing: it may be made on the image, and it lists exactly the slots that the card holds, with their records.
 -- No contract cites this file. Assumes nothing.
-use mathlib.Core.Path.{_≡_, refl, sym, ap, _∙_, subst}
+use mathlib.Core.Path.{_≡_, refl, sym, ap, _∙_}
 use mathlib.Core.Bool.{Bool, true, false, not}
 use mathlib.Core.List.{List, [], _∷_, map}
 use Prim.Native.Nat.{ℕ, zero, suc, _+_, _*_, _-_, _≤_, _<_}
 use native.Mathlib.Omega.{arith}
 use lib.ListN.{length}
-use Rattle.units.specs.declared.Guid.{Guid}
-use Rattle.units.specs.Answer.{accepted, pick}
+use Rattle.units.specs.Answer.{pick}
 use Rattle.units.specs.Bytes.{part, allZero}
-use Rattle.units.specs.Guids.{guidBytes}
 use Rattle.units.proofs.Lists.{part-part}
 use Rattle.partition.specs.Format.{entryAt, entryBytes}
 use Rattle.partition.specs.Array.{Found, entryPlace, present, presentFrom}
-use Rattle.card.specs.Lens.{Tables, tablesAt, tables}
+use Rattle.card.specs.Lens.{Tables, tablesAt}
 use Rattle.card.specs.Entries.{entry}
-use Rattle.card.specs.Calls.{layOutcome}
-use Rattle.card.specs.Listing.{presentSlots, Listed, listed, countAnswer, entriesAnswer}
-use Rattle.card.specs.History.{Op, run, emptySlot, told}
-use Rattle.card.proofs.State.{judged-none, state-check, state-front}
+use Rattle.card.specs.Listing.{presentSlots, listed}
+use Rattle.card.specs.History.{filledFrom}
+use Rattle.card.proofs.State.{state-front}
 use Rattle.card.proofs.Readers.{present-is, entry-reads}
 use Rattle.card.proofs.Steps.{Holds}
-use Rattle.card.proofs.Demand.{run-holds, run-length}
 
 -- two scans that find the same entries present give the same slots
 from-same : (xs ys : List ℕ) (a b k n m : ℕ) → k + n ≤ m → ((j : ℕ) → j < m → present xs a j ≡ present ys b j) → presentFrom xs a k n ≡ presentFrom ys b k n
@@ -42,12 +38,12 @@ slots-in-image B n xs =
     ap (λ (k : ℕ). not (allZero (part (part xs (B + B) 16384) k 128))) e
     ∙ ap (λ (l : List ℕ). not (allZero l)) (part-part xs (B + B) 16384 (j * 128) 128 (omega arith)))
 
--- ---- what a history tells of the listing
+-- ---- what is held is listed
 
--- the filled slots of n from slot k + 1 on, ascending, each with its record
-unfoldable pub toldFrom : (ℕ → Found) → ℕ → ℕ → List Listed
-toldFrom slots k zero = []
-toldFrom slots k (suc n) = pick (slots (k + 1) .present) (record { slot = k + 1; partition = slots (k + 1) .partition } ∷ toldFrom slots (k + 1) n) (toldFrom slots (k + 1) n)
+-- as many as the slots that are listed
+length-listed : (t : Tables) (l : List ℕ) → length (map (listed t) l) ≡ length l
+length-listed t [] = refl
+length-listed t (x ∷ l) = ap suc (length-listed t l)
 
 module _ {B n : ℕ} {g xs : List ℕ} {slots : ℕ → Found} (h : Holds B n g slots xs) where
   -- what stands at array place k
@@ -66,44 +62,26 @@ module _ {B n : ℕ} {g xs : List ℕ} {slots : ℕ → Found} (h : Holds B n g 
       entry-reads (h .array) (entryPlace 0 (k + 1 - 1)) (slots (k + 1)) (h .kept (k + 1)) (rw e (place-bytes k l))
 
   listed-told : (k m : ℕ) → k + m ≤ 128
-      → map (λ (s : ℕ). record { slot = s; partition = entryAt (h .array) (entryPlace 0 (s - 1)) }) (presentFrom (h .array) 0 k m) ≡ toldFrom slots k m
-  unfolding presentFrom toldFrom
+      → map (λ (s : ℕ). record { slot = s; partition = entryAt (h .array) (entryPlace 0 (s - 1)) }) (presentFrom (h .array) 0 k m) ≡ filledFrom slots k m
+  unfolding presentFrom filledFrom
   listed-told k zero l = refl
   listed-told k (suc m) l =
       rw (present-told k (omega arith))
       (go (slots (k + 1) .present) (record-told k (omega arith)) (listed-told (k + 1) m (omega arith)))
     where
       go : (t : Bool) → entryAt (h .array) (entryPlace 0 (k + 1 - 1)) ≡ slots (k + 1) .partition
-          → map (λ (s : ℕ). record { slot = s; partition = entryAt (h .array) (entryPlace 0 (s - 1)) }) (presentFrom (h .array) 0 (k + 1) m) ≡ toldFrom slots (k + 1) m
+          → map (λ (s : ℕ). record { slot = s; partition = entryAt (h .array) (entryPlace 0 (s - 1)) }) (presentFrom (h .array) 0 (k + 1) m) ≡ filledFrom slots (k + 1) m
           → map (λ (s : ℕ). record { slot = s; partition = entryAt (h .array) (entryPlace 0 (s - 1)) }) (pick t ((k + 1) ∷ presentFrom (h .array) 0 (k + 1) m) (presentFrom (h .array) 0 (k + 1) m))
-          ≡ pick t (record { slot = k + 1; partition = slots (k + 1) .partition } ∷ toldFrom slots (k + 1) m) (toldFrom slots (k + 1) m)
+          ≡ pick t (record { slot = k + 1; partition = slots (k + 1) .partition } ∷ filledFrom slots (k + 1) m) (filledFrom slots (k + 1) m)
       go true e r = cc
       go false e r = r
 
   -- a card lists what its slots hold
-  pub lists-held : map (listed (tablesAt B n xs)) (presentSlots (tablesAt B n xs)) ≡ toldFrom slots 0 128
+  pub lists-held : map (listed (tablesAt B n xs)) (presentSlots (tablesAt B n xs)) ≡ filledFrom slots 0 128
   unfolding presentSlots
   lists-held =
       ap (λ (a : List ℕ). map (λ (s : ℕ). record { slot = s; partition = entryAt a (entryPlace 0 (s - 1)) }) (presentFrom a 0 0 128)) (state-front (h .state))
       ∙ listed-told 0 128 (omega arith)
 
--- as many as the slots that are listed
-length-listed : (t : Tables) (l : List ℕ) → length (map (listed t) l) ≡ length l
-length-listed t [] = refl
-length-listed t (x ∷ l) = ap suc (length-listed t l)
-
--- after an accepted lay and any calls the listing is that of the history, and so is its count
-module _ (B : ℕ) (xs : List ℕ) (g : Guid) (os : List Op) (a : layOutcome B xs g .answer ≡ accepted tt) where
-  holds : Holds B (length (run B os (layOutcome B xs g .image))) (guidBytes g) (λ (s : ℕ). told B os (layOutcome B xs g .image) s emptySlot) (run B os (layOutcome B xs g .image))
-  holds =
-      subst (λ (m : ℕ). Holds B m (guidBytes g) (λ (s : ℕ). told B os (layOutcome B xs g .image) s emptySlot) (run B os (layOutcome B xs g .image)))
-      (sym (run-length B xs g os a)) (run-holds B xs g os a)
-
-  pub demand-3-listing : entriesAnswer B (run B os (layOutcome B xs g .image)) ≡ accepted (toldFrom (λ (s : ℕ). told B os (layOutcome B xs g .image) s emptySlot) 0 128)
-  demand-3-listing = judged-none _ _ 0 (state-check (holds .state)) ∙ ap accepted (lists-held holds)
-
-  pub demand-3-count : countAnswer B (run B os (layOutcome B xs g .image)) ≡ accepted (length (toldFrom (λ (s : ℕ). told B os (layOutcome B xs g .image) s emptySlot) 0 128))
-  demand-3-count =
-      let ys : List ℕ = run B os (layOutcome B xs g .image) in
-      judged-none _ _ 0 (state-check (holds .state))
-      ∙ ap accepted (sym (length-listed (tables B ys) (presentSlots (tables B ys))) ∙ ap length (lists-held holds))
+  pub counts-held : length (presentSlots (tablesAt B n xs)) ≡ length (filledFrom slots 0 128)
+  counts-held = sym (length-listed (tablesAt B n xs) (presentSlots (tablesAt B n xs))) ∙ ap length lists-held

@@ -4,7 +4,7 @@ use mathlib.Core.Path.{_≡_, refl, sym, ap, _∙_, subst}
 use mathlib.Core.Logic.{inl, inr}
 use mathlib.Core.Bool.{Bool, true, false, _&&_}
 use mathlib.Core.List.{List, [], _∷_}
-use Prim.Native.Nat.{ℕ, _+_, _-_, _≤_, _<_}
+use Prim.Native.Nat.{ℕ, _+_, _*_, _-_, _≤_, _<_}
 use native.Mathlib.Omega.{arith}
 use borrow.Author.Tests.{le-leb, lt-leb, lt-ltb, le-ltb}
 use lib.Dec.{leb, ltb}
@@ -17,20 +17,20 @@ use Rattle.partition.specs.Format.{named}
 use Rattle.partition.specs.Array.{Found}
 use Rattle.partition.proofs.Laws.{length-entry}
 use Rattle.card.specs.Lens.{tablesAt, withTablesAt, Beside}
-use Rattle.card.specs.Entries.{zeros}
+use Rattle.card.specs.Entries.{zeros, entry, firstOf}
 use Rattle.card.specs.Check.{check}
-use Rattle.card.specs.Calls.{changed, putNumber, clearNumber, payloadNumber, putBytes, putAt, clearAt, payloadAt, layOutcome, clearOutcome}
+use Rattle.card.specs.Calls.{changed, putNumber, clearNumber, payloadNumber, payloadPlace, putBytes, putAt, clearAt, payloadAt, layOutcome, clearOutcome}
 use Rattle.card.specs.History.{Op, put, clear, payload, taken, doneAt, call, run, emptySlot, covers, afterByte, toldByte}
 use Rattle.card.proofs.Orders.{Outside, side, by-test}
 use Rattle.card.proofs.Room.{Room}
 use Rattle.card.proofs.LensLaws.{Whole, with-byte}
 use Rattle.card.proofs.EntryLaws.{length-zeros, length-set-entry}
 use Rattle.card.proofs.Good.{room-ok, card-whole}
-use Rattle.card.proofs.State.{accepted-image, taken-zero, untaken-image, accepted-good, accepted-array}
+use Rattle.card.proofs.State.{accepted-image, taken-zero, untaken-image, state-front, accepted-good, accepted-array}
 use Rattle.card.proofs.Changes.{put-ok, clear-check, clear-slot}
 use Rattle.card.proofs.Payload.{payload-image, pay-fits}
 use Rattle.card.proofs.Records.{held-named}
-use Rattle.card.proofs.Steps.{Holds, step, lay-holds}
+use Rattle.card.proofs.Steps.{Holds, slot-first, step, lay-holds}
 
 pub sets-byte : (xs : List ℕ) (at : ℕ) (ys : List ℕ) (i : ℕ) → at + length ys ≤ length xs
     → getD (sets xs at ys) i 0 ≡ pick (covers at (length ys) i) (getD ys (i - at) 0) (getD xs i 0)
@@ -111,6 +111,12 @@ module _ {B n : ℕ} {g xs : List ℕ} {slots : ℕ → Found} (h : Holds B n g 
 
   byte-step : (c : Op) → getD (call B c xs .image) i 0 ≡ afterByte B (length xs) (call B c xs .taken) c xs i (getD xs i 0)
   byte-step c = subst (λ (m : ℕ). getD (doneAt B m c xs .image) i 0 ≡ afterByte B m (doneAt B m c xs .taken) c xs i (getD xs i 0)) (sym l) (byte-at c)
+
+-- a payload write goes to its place in the partition that the slot holds
+pub payload-at : {B n : ℕ} {g xs : List ℕ} {slots : ℕ → Found} → Holds B n g slots xs → (s p : ℕ) → 1 ≤ s → s ≤ 128
+    → payloadPlace B (tablesAt B n xs) s p ≡ slots s .partition .«first_lba» .0 * B + p
+payload-at {B} {n} {g} {xs} {slots} h s p a b =
+    ap (λ (k : ℕ). k * B + p) (ap (λ (l : List ℕ). firstOf (entry l (s - 1))) (state-front (h .state)) ∙ slot-first h s a b)
 
 pub bytes-told : {B n : ℕ} {g : List ℕ} (os : List Op) (xs : List ℕ) (slots : ℕ → Found) → Holds B n g slots xs
     → (i : ℕ) → Beside B n i → getD (run B os xs) i 0 ≡ toldByte B os xs i (getD xs i 0)

@@ -16,7 +16,7 @@ use Rattle.partition.specs.Format.{entryBytes, named}
 use Rattle.partition.specs.Array.{Found}
 use Rattle.partition.proofs.Laws.{length-entry}
 use Rattle.card.specs.Lens.{tablesAt}
-use Rattle.card.specs.Entries.{zeros, entry, setEntry, used}
+use Rattle.card.specs.Entries.{zeros, entry, setEntry, used, firstOf, lastOf}
 use Rattle.card.specs.Check.{guidOf}
 use Rattle.card.specs.Calls.{putBytes, layAt, putAt, putNumber, clearAt, clearNumber, payloadAt, payloadNumber, layOutcome}
 use Rattle.card.specs.History.{PartitionHeld, Op, put, clear, payload, taken, doneAt, call, run, emptySlot, filledSlot, after, told}
@@ -25,7 +25,7 @@ use Rattle.card.proofs.EntryLaws.{entry-set, entry-zeros, unused-zeros}
 use Rattle.card.proofs.State.{taken-zero, untaken-image, State, state-guid, state-front, lay-done}
 use Rattle.card.proofs.Changes.{put-ok, put-done, clear-slot, clear-done}
 use Rattle.card.proofs.Payload.{payload-tables, payload-length}
-use Rattle.card.proofs.Records.{held-named, named-twice, held-zero, named-zero, zero-bytes-of}
+use Rattle.card.proofs.Records.{record-first, record-last, held-named, named-twice, held-zero, named-zero, zero-bytes-of}
 
 -- what a slot holds is a record as the code can hold it, its name cleared; it is present exactly where its type is not nil, and all zero where it is absent
 pub record Kept (f : Found) : Type 0 where
@@ -48,6 +48,14 @@ pub record Holds (B n : ℕ) (g : List ℕ) (slots : ℕ → Found) (xs : List �
   pub state : State B n g array xs
   pub kept : (s : ℕ) → Kept (slots s)
   pub places : (s : ℕ) → 1 ≤ s → s ≤ 128 → entry array (s - 1) ≡ entryBytes (slots s .partition)
+
+-- the blocks of an entry are those of its record
+module _ {B n : ℕ} {g xs : List ℕ} {slots : ℕ → Found} (h : Holds B n g slots xs) (s : ℕ) (a : 1 ≤ s) (b : s ≤ 128) where
+  pub slot-first : firstOf (entry (h .array) (s - 1)) ≡ slots s .partition .«first_lba» .0
+  slot-first = ap firstOf (h .places s a b) ∙ record-first (slots s .partition) (h .kept s .held .fields .first)
+
+  pub slot-last : lastOf (entry (h .array) (s - 1)) ≡ slots s .partition .«last_lba» .0
+  slot-last = ap lastOf (h .places s a b) ∙ record-last (slots s .partition) (h .kept s .held .fields .last)
 
 -- ---- one call
 

@@ -1,4 +1,4 @@
--- Cases at the edges of document 01, P1 to P4 and P12, over the definitions of the card, and its lister's card. Assumes nothing.
+-- Cases at the edges of document 01, P1 to P4 and P12, over the definitions of the card. Assumes nothing.
 use mathlib.Core.Path.{_≡_, refl}
 use Prim.Native.Nat.{_+_, _*_}
 use lib.ListN.{replicate}

@@ -4,7 +4,7 @@ use mathlib.Core.Path.{_≡_}
 use mathlib.Core.Logic.{_⊎_}
 use mathlib.Core.Bool.{Bool, true, false, _&&_}
 use mathlib.Core.List.{List, [], _∷_}
-use Prim.Native.Nat.{ℕ, _+_, _*_, _-_, _≤_, _<_}
+use Prim.Native.Nat.{ℕ, zero, suc, _+_, _*_, _-_, _≤_, _<_}
 use lib.Dec.{eqb, leb, ltb}
 use lib.ListN.{length, getD}
 use Rattle.units.specs.declared.Guid.{Guid}
@@ -20,6 +20,7 @@ use Rattle.partition.specs.Array.{Found, arrayFound, partitionRead}
 use Rattle.partition.proofs.Laws.{FitEntry}
 use Rattle.card.specs.Places.{firstUsable, lastUsable, backArray}
 use Rattle.card.specs.Lens.{tablesAt, Beside}
+use Rattle.card.specs.Listing.{Listed, entriesAnswer}
 use Rattle.card.specs.Calls.{payloadPlace, putBytes, checkAnswer, putAt, clearAt, payloadAt}
 
 -- ---- calls
@@ -85,6 +86,14 @@ unfoldable pub told : ℕ → List Op → List ℕ → ℕ → Found → Found
 told B [] xs k x = x
 told B (o ∷ os) xs k x = told B os (call B o xs .image) k (after (call B o xs .taken) o k x)
 
+-- the filled slots of n from slot k + 1 on, ascending, each with its record
+unfoldable pub filledFrom : (ℕ → Found) → ℕ → ℕ → List Listed
+filledFrom slots k zero = []
+filledFrom slots k (suc n) =
+    pick (slots (k + 1) .present)
+    (record { slot = k + 1; partition = slots (k + 1) .partition } ∷ filledFrom slots (k + 1) n)
+    (filledFrom slots (k + 1) n)
+
 -- ---- what is told of a byte beside the tables: the last accepted payload write over it
 
 unfoldable pub covers : ℕ → ℕ → ℕ → Bool
@@ -125,8 +134,9 @@ abbrev pub Apart : Partition → Partition → Type 0
 Apart p q = (p .«last_lba» .0 < q .«first_lba» .0) ⊎ (q .«last_lba» .0 < p .«first_lba» .0)
 
 pub record Card (B : ℕ) (g : Guid) (slots : ℕ → Found) (xs : List ℕ) : Type 0 where
-  -- the check accepts, and both tables read as told
+  -- the check accepts, the listing gives the filled slots, and both tables read as told
   pub check : checkAnswer B xs ≡ accepted tt
+  pub listing : entriesAnswer B xs ≡ accepted (filledFrom slots 0 128)
   pub primary : Reads B g slots xs (primaryRead xs B)
   pub backup : Reads B g slots xs (backupRead xs B)
   -- the usable blocks lie after block 0 and the front table, and before the back table
