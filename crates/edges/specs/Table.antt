@@ -2,14 +2,15 @@
 -- Assumes nothing.
 use mathlib.Core.Path.{_≡_, refl, ap}
 use mathlib.Core.Bool.{Bool, true, false, _&&_}
-use mathlib.Core.List.{List, [], _∷_}
-use Prim.Native.Nat.{ℕ, _-_, _^_}
+use mathlib.Core.List.{List, [], _∷_, _++_}
+use Prim.Native.Nat.{ℕ, zero, suc, _-_, _^_}
 use native.Mathlib.Omega.{arith}
 use borrow.Author.Tests.{eqb-true}
 use lib.Dec.{eqb}
+use lib.ListN.{getD, replicate}
 use Rattle.units.specs.declared.Lba.{Lba}
 use Rattle.units.specs.declared.Guid.{Guid}
-use Rattle.units.specs.Answer.{Why, Answer, accepted, refused, refuse, andThen}
+use Rattle.units.specs.Answer.{Why, Answer, accepted, refused, numberOf, refuse, andThen}
 use Rattle.units.specs.Bytes.{le, num, bytes, same}
 use Rattle.units.specs.Guids.{guidAt, nilGuid}
 use Rattle.units.specs.Places.{goodSize}
@@ -19,7 +20,7 @@ use Rattle.header.specs.declared.builder.HeaderBuilder.{HeaderBuilder}
 use Rattle.header.specs.Reading.{backupBlock}
 use Rattle.header.specs.Building.{newBuilder, withPrimary, withBackupLba, withLastUsable, withNumParts, withPartSize, builtWith, built}
 use Rattle.partition.specs.Lengths.{sectorsLen}
-use Rattle.mbr.specs.Format.{recordBytes, protective}
+use Rattle.mbr.specs.Format.{recordBytes, zeroRecord, fresh}
 
 -- a case: what a definition gives, and what the document says
 pub record Case : Type 0 where
@@ -64,6 +65,11 @@ backup s = withPrimary s false
 abbrev far : HeaderBuilder
 far = withLastUsable (with 67) (record { 0 = 100 })
 
+-- the numbers that come back for 129 entries at 512 with each backup below n, the greatest first
+unfoldable pub numbers : ℕ → List ℕ
+numbers zero = []
+numbers (suc n) = numberOf (building (withNumParts (with n) 129) 512) ∷ numbers n
+
 -- ---- other values as lists
 
 abbrev count : Answer ℕ → Answer (List ℕ)
@@ -101,17 +107,21 @@ table =
     ∷ says (building (with 10) 4096) (refuse 10)
     -- P5: backup never set. P6: B 512, backup 32
     ∷ says (building unset 512) (refuse 9)
+    ∷ says (building unset 4096) (refuse 9)
     ∷ says (building (with 32) 512) (refuse 10)
     -- P7: B 512, backup 67, last usable set to 100
     ∷ says (building far 512) (usable 34 100 2 128)
     ∷ says (building (backup far) 512) (usable 34 100 101 128)
     -- P8: count set to 4. P9: count 129, B 512: smallest backup 69
     ∷ says (building (withNumParts (with 67) 4) 512) (usable 34 34 2 128)
-    ∷ says (building (withNumParts (with 68) 129) 512) (refuse 10)
+    ∷ says (building (withNumParts (with 67) 4) 4096) (usable 6 62 2 128)
+    ∷ says (accepted (numbers 69)) (accepted (replicate 68 10 ++ (9 ∷ [])))
     ∷ says (building (withNumParts (with 69) 129) 512) (usable 35 35 2 129)
     -- P10: backup 67, 128 entries of 33,554,432 bytes, and of one byte less
     ∷ says (building (withPartSize (with 67) 33554432) 512) (refuse 3)
     ∷ says (building (withPartSize (with 67) 33554431) 512) (refuse 10)
+    ∷ says (building (withPartSize (with 67) 33554432) 4096) (refuse 3)
+    ∷ says (building (withPartSize (with 67) 33554431) 4096) (refuse 10)
     -- P11: blocks 34 to 34; 5 to 4; 0 to the largest
     ∷ says (count (sectorsLen 34 34)) (accepted (1 ∷ []))
     ∷ says (count (sectorsLen 5 4)) (refuse 20)
@@ -123,15 +133,15 @@ table =
     ∷ says
     (accepted (fields (guidAt (0 ∷ 1 ∷ 2 ∷ 3 ∷ 4 ∷ 5 ∷ 6 ∷ 7 ∷ 8 ∷ 9 ∷ 10 ∷ 11 ∷ 12 ∷ 13 ∷ 14 ∷ 15 ∷ []) 0)))
     (accepted (0x03020100 ∷ 0x0504 ∷ 0x0706 ∷ 8 ∷ 9 ∷ 10 ∷ 11 ∷ 12 ∷ 13 ∷ 14 ∷ 15 ∷ []))
-    -- P14: the default protective record
+    -- P14: the default protective record, the first of a new MBR
     ∷ says
-    (accepted (recordBytes (protective 0xFFFFFFFF)))
+    (accepted (recordBytes (getD (fresh 0xFFFFFFFF .partitions) 0 zeroRecord)))
     (accepted (0x00 ∷ 0x00 ∷ 0x02 ∷ 0x00 ∷ 0xEE ∷ 0xFF ∷ 0xFF ∷ 0xFF ∷ 0x01 ∷ 0x00 ∷ 0x00 ∷ 0x00 ∷ 0xFF ∷ 0xFF ∷ 0xFF ∷ 0xFF ∷ []))
     ∷ []
 
 -- all fourteen cases, by one computation
 pub edges : allPass table ≡ true
-unfolding table allPass sameAnswer same built builtWith goodSize sectorsLen backupBlock num le bytes
+unfolding table numbers allPass sameAnswer same built builtWith goodSize sectorsLen backupBlock num le bytes
 edges = refl
 
 -- ---- what the test says: two answers that compare as the same are the same, so each case of a table that passes gives what the document says

@@ -2,7 +2,8 @@
 use header::builder::HeaderBuilder;
 use header::builder::HeaderBuilt;
 use libc::STDOUT_FILENO;
-use mbr::PartRecord;
+use mbr::ProtectiveMbr;
+use mbr::RecordRead;
 use partition::Length;
 use partition::Partition;
 use units::BlockFound;
@@ -64,6 +65,7 @@ fn show_smallest() {
     show_built(b"P3 backup", with_backup(11).with_primary(false), 4096);
     show_built(b"P4", with_backup(10), 4096);
     show_built(b"P5", HeaderBuilder::new(Guid::nil()), 512);
+    show_built(b"P5", HeaderBuilder::new(Guid::nil()), 4096);
     show_built(b"P6", with_backup(32), 512);
 }
 
@@ -72,10 +74,13 @@ fn show_set() {
     show_built(b"P7", far, 512);
     show_built(b"P7 backup", far.with_primary(false), 512);
     show_built(b"P8", with_backup(67).with_num_parts(4), 512);
+    show_built(b"P8", with_backup(67).with_num_parts(4), 4096);
     show_built(b"P9", with_backup(68).with_num_parts(129), 512);
     show_built(b"P9", with_backup(69).with_num_parts(129), 512);
     show_built(b"P10", with_backup(67).with_part_size(33554432), 512);
     show_built(b"P10", with_backup(67).with_part_size(33554431), 512);
+    show_built(b"P10", with_backup(67).with_part_size(33554432), 4096);
+    show_built(b"P10", with_backup(67).with_part_size(33554431), 4096);
 }
 
 // A partition of which the blocks alone count.
@@ -146,8 +151,13 @@ fn show_bytes(bytes: &[u8]) {
 
 fn show_record() {
     text(b"P14");
-    show_bytes(&PartRecord::new_protective(0xFFFF_FFFF).to_bytes());
-    text(b"\n");
+    match ProtectiveMbr::new().partition(0) {
+        RecordRead::Refused(w) => refused(w),
+        RecordRead::Read(p) => {
+            show_bytes(&p.to_bytes());
+            text(b"\n");
+        }
+    }
 }
 
 fn main() {

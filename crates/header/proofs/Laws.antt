@@ -18,7 +18,7 @@ use Rattle.units.specs.Answer.{Why, Answer, accepted, refused, numberOf, refuse
 use Rattle.units.specs.Bytes.{part, num, bytes, total, laid, same}
 use Rattle.units.specs.Guids.{guidBytes, tailBytes}
 use Rattle.units.specs.Places.{goodSize, inside, insideOrEmpty}
-use Rattle.units.proofs.Lists.{part-part, part-split, drop-sets}
+use Rattle.units.proofs.Lists.{part-join, part-part, part-split, drop-sets}
 use Rattle.units.proofs.Laws.{size-range, by-pick, length-bytes, num-drop, le-bytes, Small, small-part, bytes-num, same-refl}
 use Rattle.units.proofs.GuidLaws.{FitGuid, fit-guid-of, guid-here, guid-bytes-back}
 use Rattle.crc32.specs.Crc.{crc}
@@ -233,9 +233,6 @@ header-back h xs at f l =
     (drop-sets xs at (headerBytes h) (omega (arith, length-header h))) f
 
 -- ---- what is read is stored back
-
-part-join : (xs : List ℕ) (at n k m l : ℕ) → at + n ≡ k → n + m ≡ l → part xs at n ++ part xs k m ≡ part xs at l
-part-join xs at n k m l p q = rw (← p, ← q) (sym (part-split xs at n m))
 
 -- the signature and the fields are the whole of the 92 bytes: no others have these fields
 pub header-bytes-back : (xs : List ℕ) (at : ℕ) → at + 92 ≤ length xs → Small xs → part xs at 8 ≡ signature → headerBytes (headerAt xs at) ≡ part xs at 92

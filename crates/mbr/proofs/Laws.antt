@@ -19,7 +19,7 @@ use mir.Val.{Val}
 use Rattle.units.specs.Answer.{Answer, accepted, refused, numberOf, refuse, pick, gives, Ends}
 use Rattle.units.specs.Bytes.{part, num, bytes, same}
 use Rattle.units.specs.Places.{goodSize, inside}
-use Rattle.units.proofs.Lists.{length-part, part-part, part-split, part-step, part-in, part-same, part-out, sets-then, sets-all, drop-next, drop-sets}
+use Rattle.units.proofs.Lists.{part-join, length-part, part-part, part-split, part-step, part-in, part-same, part-out, sets-then, sets-all, drop-next, drop-sets}
 use Rattle.units.proofs.Laws.{size-range, length-bytes, field-here, num-part, num-out, num-drop, Small, bytes-num, same-refl}
 use Rattle.units.proofs.GuidLaws.{tail-part}
 use Rattle.mbr.proofs.PartRecord.{the-type as record-type, the-field as record-field}
@@ -227,16 +227,12 @@ mbr-back m xs at f h =
 
 -- ---- what was read is written back: with 55 AA the fields are the whole of the 512 bytes
 
--- a part in two pieces, the second at a place of its own name
-part-next : (xs : List ℕ) (at n j m : ℕ) → at + n ≡ j → part xs at (n + m) ≡ part xs at n ++ part xs j m
-part-next xs at n j m e = part-split xs at n m ∙ rw e
-
 pub record-bytes-back : (xs : List ℕ) (at : ℕ) → at + 16 ≤ length xs → Small xs → recordBytes (recordAt xs at) ≡ part xs at 16
 record-bytes-back xs at h b =
     let l : at + 8 ≤ length xs = omega arith in
     rw (bytes-num xs (at + 8) 4 (omega arith) b, bytes-num xs (at + 12) 4 (omega arith) b)
     (ap (λ (l : List ℕ). l ++ (part xs (at + 8) 4 ++ part xs (at + 12) 4)) (tail-part xs at l)
-    ∙ sym (part-split xs at 8 8 ∙ rw (part-next xs (at + 8) 4 (at + 12) 4 (omega arith))))
+    ∙ sym (part-split xs at 8 8 ∙ rw (sym (part-join xs (at + 8) 4 (at + 12) 4 8 (omega arith) refl))))
 
 both : {a a′ b b′ : List ℕ} → a ≡ a′ → b ≡ b′ → a ++ b ≡ a′ ++ b′
 both p q = cc
@@ -246,7 +242,7 @@ records-front : (xs : List ℕ) (j k m : ℕ) (ps : List PartRecord) (t : List �
     → recordsBytes (recordAt xs j ∷ ps) ++ t ≡ part xs j (16 + m)
 unfolding recordsBytes
 records-front xs j k m ps t q h b e =
-    append-assoc (recordBytes (recordAt xs j)) (recordsBytes ps) t ∙ both (record-bytes-back xs j h b) e ∙ sym (part-next xs j 16 k m q)
+    append-assoc (recordBytes (recordAt xs j)) (recordsBytes ps) t ∙ both (record-bytes-back xs j h b) e ∙ part-join xs j 16 k m (16 + m) q refl
 
 pub tail-bytes-back : (xs : List ℕ) (at : ℕ) → at + 512 ≤ length xs → Small xs → part xs (at + 510) 2 ≡ signature → tailBytes (mbrAt xs at .partitions) ≡ part xs (at + 446) 66
 unfolding recordsBytes
@@ -261,8 +257,8 @@ tail-bytes-back xs at h b e =
 
 pub mbr-bytes-back : (xs : List ℕ) (at : ℕ) → at + 512 ≤ length xs → Small xs → part xs (at + 510) 2 ≡ signature → mbrBytes (mbrAt xs at) ≡ part xs at 512
 mbr-bytes-back xs at h b e =
-    let u : part xs (at + 444) 68 ≡ part xs (at + 444) 2 ++ part xs (at + 446) 66 = part-next xs (at + 444) 2 (at + 446) 66 (omega arith) in
-    let s : part xs (at + 440) 72 ≡ part xs (at + 440) 4 ++ part xs (at + 444) 68 = part-next xs (at + 440) 4 (at + 444) 68 (omega arith) in
+    let u : part xs (at + 444) 68 ≡ part xs (at + 444) 2 ++ part xs (at + 446) 66 = sym (part-join xs (at + 444) 2 (at + 446) 66 68 (omega arith) refl) in
+    let s : part xs (at + 440) 72 ≡ part xs (at + 440) 4 ++ part xs (at + 444) 68 = sym (part-join xs (at + 440) 4 (at + 444) 68 72 (omega arith) refl) in
     both {a = part xs at 440} refl (both {a = part xs (at + 440) 4} refl (both (bytes-num xs (at + 444) 2 (omega arith) b) (tail-bytes-back xs at h b e) ∙ sym u) ∙ sym s) ∙ sym (part-split xs at 440 72)
 
 -- ---- what a write leaves, and what is read after it

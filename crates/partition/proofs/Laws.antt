@@ -22,7 +22,7 @@ use Rattle.units.specs.declared.Guid.{Guid}
 use Rattle.units.specs.Answer.{pick}
 use Rattle.units.specs.Bytes.{part, le, num, bytes, allZero}
 use Rattle.units.specs.Guids.{guidAt, guidBytes}
-use Rattle.units.proofs.Lists.{length-part, part-step, part-split, sets-then, drop-sets, drop-next}
+use Rattle.units.proofs.Lists.{part-join, length-part, part-step, part-split, sets-then, drop-sets, drop-next}
 use Rattle.units.proofs.Laws.{length-bytes, num-part, num-drop, num-here, field-here, Small, bytes-num, and-both}
 use Rattle.units.proofs.GuidLaws.{FitGuid, fit-guid-of, length-guid, guid-drop, guid-here, guid-part, guid-bytes-back}
 use Rattle.partition.specs.declared.Partition.{Partition}
@@ -296,9 +296,6 @@ unit-bytes-back zero xs at h b = refl
 unit-bytes-back (suc n) xs at h b =
     let e : 2 * suc n ≡ 2 + 2 * n = omega arith in
     rw (e, part-split xs at 2 (2 * n), bytes-num xs at 2 (omega arith) b, unit-bytes-back n xs (at + 2) (omega arith) b)
-
-part-join : (xs : List ℕ) (at n k m l : ℕ) → at + n ≡ k → n + m ≡ l → part xs at n ++ part xs k m ≡ part xs at l
-part-join xs at n k m l p q = rw (← p, ← q) (sym (part-split xs at n m))
 
 -- an entry whose name holds only zeros after its first zero unit: its bytes are those that its record is stored as
 pub entry-bytes-back : (xs : List ℕ) (at : ℕ) → at + 128 ≤ length xs → Small xs → cleared (unitsAt 36 xs (at + 56)) ≡ unitsAt 36 xs (at + 56)

@@ -162,7 +162,7 @@ impl Partition {
         }
     }
 
-    // Stores zeros over `count` entries from entry `index` on: 1, 7, 3, 2. Zeroing none is accepted at any place.
+    // Stores zeros over `count` entries from entry `index` on: 1, 7, 3, 2. Zeroing none is accepted at any place below 2^64.
     pub fn write_zero_entries_to_device(
         img: &mut [u8],
         index: u64,

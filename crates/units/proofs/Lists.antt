@@ -34,6 +34,10 @@ part-part xs a n o m h =
 pub part-split : (xs : List ℕ) (at n m : ℕ) → part xs at (n + m) ≡ part xs at n ++ part xs (at + n) m
 part-split xs at n m = take-add n m (drop at xs) ∙ rw (drop-drop n at xs)
 
+-- two adjoining parts are one, each place and length under a name of its own
+pub part-join : (xs : List ℕ) (at n k m l : ℕ) → at + n ≡ k → n + m ≡ l → part xs at n ++ part xs k m ≡ part xs at l
+part-join xs at n k m l p q = rw (← p, ← q) (sym (part-split xs at n m))
+
 -- the whole as a part
 pub part-all : (xs : List ℕ) (n : ℕ) → length xs ≡ n → part xs 0 n ≡ xs
 part-all xs n e = take-all n xs (omega arith)
