@@ -1,6 +1,6 @@
 -- The headers of a card as lay writes them, byte by byte, and the tables that they make with an array. That these are the headers that the builder gives,
 -- stored by the header's own format, is shown in proofs/Builder. From document 01, "The card calls". Assumes nothing.
-use mathlib.Core.Bool.{Bool, _&&_}
+use mathlib.Core.Bool.{Bool, true, false, _&&_}
 use mathlib.Core.List.{List, _++_}
 use Prim.Native.Nat.{ℕ, _+_, _-_}
 use lib.Dec.{eqb}
@@ -9,12 +9,23 @@ use Rattle.units.specs.Bytes.{bytes}
 use Rattle.crc32.specs.Crc.{crc}
 use Rattle.header.specs.declared.Header.{Header}
 use Rattle.header.specs.Format.{signature}
-use Rattle.card.specs.Places.{blocks, firstUsable, lastUsable}
+use Rattle.header.specs.Writing.{withSums, headerBlock}
+use Rattle.card.specs.Places.{blocks, firstUsable, lastUsable, backHeader}
 use Rattle.card.specs.Lens.{Copy, Tables}
 use Rattle.card.specs.Entries.{zeros}
 
 pub data Side : Type 0 where
   Front Back : Side
+
+-- the code's word for a side
+abbrev pub sideOf : Bool → Side
+sideOf false = Front
+sideOf true = Back
+
+-- the byte place of a header's block
+abbrev pub headerPlace : ℕ → ℕ → Side → ℕ
+headerPlace B n Front = B
+headerPlace B n Back = backHeader B n
 
 -- current, backup and array start
 abbrev pub ownBlock : ℕ → ℕ → Side → ℕ
@@ -74,6 +85,10 @@ cardHeader B n s g =
       «part_size» = 128;
       «crc32_parts» = 0;
     }
+
+-- the block that stores it, once the array's sum is known: `copyOf` has the same block for each array of that sum
+unfoldable pub headBlock : ℕ → ℕ → Side → Guid → ℕ → List ℕ
+headBlock B n s g parts = headerBlock (withSums (cardHeader B n s g) parts) B
 
 -- a header has these fields, whatever its GUID and its sums are: what 16 tests of a header
 unfoldable pub laidFields : ℕ → ℕ → Side → Header → Bool

@@ -1,1 +1,25 @@
 // The card: both tables laid, checked, changed and listed together, and payload written inside a partition. What each call promises is in specs/.
+// Here stand the public calls: each takes every image and every number. `inner` has the leaves for our own crates.
+pub mod inner; // inner.rt: the leaves that lay, put and clear share
+mod checking; // checking.rt: the card check
+mod laying; // laying.rt: what lay stores
+
+pub use checking::check;
+use units::Guid;
+use units::Verdict;
+ghost use Rattle.units.specs.Answer.{Ends};
+ghost use Rattle.units.specs.Meanings.{verdictMeans};
+ghost use Rattle.card.specs.Calls.{layOutcome};
+
+// Lays an empty card for a disk GUID, the MBR and both tables: 1, 8, 10.
+pub fn lay(img: &mut [u8], b: u64, guid: Guid) -> Verdict
+    ensures { λ r. ⌜ Ends (layOutcome b (now (img .entry)) guid) (verdictMeans r) (now (img .exit)) ⌝ }
+{
+    match inner::room(img.len(), b) {
+        Verdict::Refused(w) => Verdict::Refused(w),
+        Verdict::Accepted => {
+            laying::lay_card(img, b, guid);
+            Verdict::Accepted
+        }
+    }
+}

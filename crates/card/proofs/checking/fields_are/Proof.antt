@@ -1,0 +1,11 @@
+-- `card::checking::fields_are` meets its contract. Assumes nothing.
+use Rattle.card.specs.Headers.{laidFields}
+use Rattle.card.proofs.checking.fields_are.Statement.{statement}
+use Rattle.card.proofs.checking.fields_are.Tie as tie
+
+returns : tie.Need-returns
+unfolding laidFields
+returns c B n s own other first last start = rw (← own, ← other, ← first, ← last, ← start)
+
+pub fields-are-spec : {M : Type 1} → statement M
+fields-are-spec = tie.close (tie.spec returns)
