@@ -318,11 +318,11 @@ passed zero n p = omega arith
 passed (suc k) n p = let h = passed k n (p .0) in let d = p .1 in omega arith
 
 -- each number of the check is one of the table of refusals
-when-most : (t : Bool) (k m : ℕ) → k ≤ m → when t k ≤ m
+pub when-most : (t : Bool) (k m : ℕ) → k ≤ m → when t k ≤ m
 when-most true k m h = h
 when-most false k m h = omega arith
 
-else-most : (a b m : ℕ) → a ≤ m → b ≤ m → orElse a b ≤ m
+pub else-most : (a b m : ℕ) → a ≤ m → b ≤ m → orElse a b ≤ m
 else-most zero b m h l = l
 else-most (suc k) b m h l = h
 

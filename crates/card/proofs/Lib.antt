@@ -22,3 +22,4 @@ pub mod Corollaries
 pub mod Ways
 pub mod LayWays
 pub mod CheckWays
+pub mod ChangeWays

@@ -93,7 +93,7 @@ fn laid_fields(h: Header, len: usize, b: u64, back: bool) -> bool
 }
 
 // The sum of the array at a place.
-fn array_sum<'a>(t: &'a [u32; 4096], img: &'a [u8], at: usize) -> u32
+pub fn array_sum<'a>(t: &'a [u32; 4096], img: &'a [u8], at: usize) -> u32
     requires { ⌜ Rows 16 (now t) ⌝ }
     requires { ⌜ at + 16384 ≤ length (now img) ⌝ }
     ensures { λ r. ⌜ r ≡ crc (part (now (img .entry)) at 16384) ⌝ }

@@ -1,15 +1,17 @@
 // The card: both tables laid, checked, changed and listed together, and payload written inside a partition. What each call promises is in specs/.
 // Here stand the public calls: each takes every image and every number. `inner` has the leaves for our own crates.
 pub mod inner; // inner.rt: the leaves that lay, put and clear share
+mod changing; // changing.rt: what put and clear test and store
 mod checking; // checking.rt: the card check
 mod laying; // laying.rt: what lay stores
 
 pub use checking::check;
 use units::Guid;
+use units::Slot;
 use units::Verdict;
 ghost use Rattle.units.specs.Answer.{Ends};
 ghost use Rattle.units.specs.Meanings.{verdictMeans};
-ghost use Rattle.card.specs.Calls.{layOutcome};
+ghost use Rattle.card.specs.Calls.{layOutcome, clearOutcome};
 
 // Lays an empty card for a disk GUID, the MBR and both tables: 1, 8, 10.
 pub fn lay(img: &mut [u8], b: u64, guid: Guid) -> Verdict
@@ -22,4 +24,17 @@ pub fn lay(img: &mut [u8], b: u64, guid: Guid) -> Verdict
             Verdict::Accepted
         }
     }
+}
+
+// Clears a slot in both tables, the GUID kept: 18 after the check.
+pub fn clear(img: &mut [u8], b: u64, slot: Slot) -> Verdict
+    ensures { λ r. ⌜ Ends (clearOutcome b (now (img .entry)) (slot .0)) (verdictMeans r) (now (img .exit)) ⌝ }
+{
+    let found = changing::clear_number(img, b, slot.0);
+    if found != 0 {
+        return checking::verdict_of(found);
+    }
+    let e = [0u8; 128];
+    changing::change(img, b, slot.0, &e);
+    Verdict::Accepted
 }
