@@ -4,7 +4,6 @@ use mathlib.Core.Logic.{_⊎_, inl, inr}
 use mathlib.Core.Bool.{Bool, true, false, not, _&&_}
 use mathlib.Core.List.{List}
 use Prim.Native.Nat.{ℕ, zero, suc, _+_, _*_, _-_, _/_, _^_, _≤_, _<_}
-use native.Mathlib.Nat.{div-le-self}
 use native.Mathlib.Omega.{arith}
 use borrow.Author.Tests.{eqb-true, eqb-false, lt-ltb, le-ltb, eq-eqb, ne-eqb, not-true, not-false}
 use lib.Dec.{eqb, ltb, leb}
@@ -91,6 +90,7 @@ module _ {z : Bool} (xs : List ℕ) (at : ℕ) (e : z ≡ allZero (part xs at 16
       let u : used (part xs at 128) ≡ false = used-part xs at ∙ ap not (sym e ∙ t) in
       by-test (allZero (part xs at 128)) (λ a. rw a) (λ a. rw (a, u))
 
+  -- a used one is never all zero, so it has to be inside
   pub ok-inside : (B n : ℕ) {f l first last : ℕ} → z ≡ false → f ≡ num xs (at + 32) 8 → l ≡ num xs (at + 40) 8 → first ≡ firstUsable B → last ≡ lastUsable B n
       → leb f l && (leb first f && leb l last) ≡ okEntry B n (part xs at 128)
   unfolding okEntry usable
@@ -156,6 +156,7 @@ pub clash-unused : (d e : List ℕ) → used d ≡ false → clash d e ≡ false
 unfolding clash
 clash-unused d e u = rw u
 
+-- so it is with entries that share a block
 pub square : (arr : List ℕ) → all 128 (λ (k : ℕ). all k (λ (j : ℕ). not (clash (entry arr k) (entry arr j))))
     ≡ all 128 (λ (j : ℕ). all 128 (λ (k : ℕ). pick (eqb j k) true (not (clash (entry arr j) (entry arr k)))))
 square arr = triangle 128 (λ (j k : ℕ). clash (entry arr j) (entry arr k)) (λ j k. clash-comm (entry arr j) (entry arr k))
@@ -242,6 +243,7 @@ entries-right e t = rw (← e, t)
 
 -- ---- the order of the parts
 
+-- a number that is not 0 is the answer; after 0 the next part gives it
 pub else-here : {f a : ℕ} (m : ℕ) → f ≡ a → (f ≡ 0 → ⊥) → f ≡ orElse a m
 else-here {f} {a} m e d = e ∙ sym (else-take a m (λ z. d (e ∙ z)))
 

@@ -1,12 +1,12 @@
-// The card check: 1, 8, 10; 4, 5, 16, 6 of each table; 17; 16 of the entries. Below the public call stand its leaves, whose `requires` their callers have tested.
+// The card check: 1, 8, 10; 4, 5, 16, 6 of each table; 17; 16 of the entries. The public call comes last; each `requires` before it is what a caller has tested.
 use header::Header;
 use units::Refusal;
 use units::Slot;
 use units::Verdict;
 ghost use mathlib.Core.Path.{_≡_};
-ghost use mathlib.Core.Bool.{Bool, true, not, _&&_};
+ghost use mathlib.Core.Bool.{true, not, _&&_};
 ghost use mathlib.Core.List.{List};
-ghost use Prim.Native.Nat.{ℕ, _+_, _*_, _≤_, _<_};
+ghost use Prim.Native.Nat.{ℕ, _+_, _≤_, _<_};
 ghost use lib.Dec.{eqb};
 ghost use lib.ListN.{length};
 ghost use Rattle.units.specs.Answer.{pick};
@@ -67,15 +67,16 @@ fn fields_are(h: Header, own: u64, other: u64, first: u64, last: u64, start: u64
     ensures { λ r. ⌜ ((B n : ℕ) (s : Side) → own ≡ ownBlock B n s → other ≡ otherBlock B n s → first ≡ firstUsable B → last ≡ lastUsable B n → start ≡ arrayStart B n s → r ≡ laidFields B n s h) ⌝ }
 {
     (h.revision.1 == 0)
-        & ((h.revision.0 == 1)
-            & ((h.header_size_le == 92)
-                & ((h.reserved == 0)
-                    & ((h.current_lba.0 == own)
-                        & ((h.backup_lba.0 == other)
-                            & ((h.first_usable.0 == first)
-                                & ((h.last_usable.0 == last)
-                                    & ((h.part_start.0 == start)
-                                        & ((h.num_parts == 128) & (h.part_size == 128))))))))))
+        & (h.revision.0 == 1)
+        & (h.header_size_le == 92)
+        & (h.reserved == 0)
+        & (h.current_lba.0 == own)
+        & (h.backup_lba.0 == other)
+        & (h.first_usable.0 == first)
+        & (h.last_usable.0 == last)
+        & (h.part_start.0 == start)
+        & (h.num_parts == 128)
+        & (h.part_size == 128)
 }
 
 // What 16 tests of a header, in the back table or in the front one.

@@ -1,8 +1,8 @@
 -- `card::checking::check` meets its contract: its number is one of the table of refusals. Assumes nothing.
 use mathlib.Core.Path.{_∙_}
 use native.Mathlib.Omega.{arith}
-use lib.ListN.{length}
 use borrow.Author.Needs.{needs}
+use lib.ListN.{length}
 use Rattle.card.specs.Lens.{tables}
 use Rattle.card.proofs.CheckWays.{judged-number, check-most}
 use Rattle.card.proofs.checking.check.Statement.{statement}

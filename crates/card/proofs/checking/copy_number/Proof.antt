@@ -37,19 +37,39 @@ header-sum-at-requires : tie.Need-header-sum-at-requires
 header-sum-at-requires c κs = search needs
 
 returns-2 : tie.Need-returns-2
-returns-2 c array e = copy-other _ _ _ _ _ _ (c .before .before .before .before .before .same-at .ensures) (c .before .before .before .before .if1 .left) (c .before .before .before .header-at .ensures) (c .before .before .header-sum-at .ensures) (c .if2 .taken) ∙ by (c .before .before .before .before .before .before .before) array
+returns-2 c array e =
+    let signed = c .before .before .before .before in
+    copy-other _ _ _ _ _ _ (signed .before .same-at .ensures) (signed .if1 .left) (c .before .before .before .header-at .ensures) (c .before .before .header-sum-at .ensures) (c .if2 .taken)
+    ∙ by (signed .before .before .before) array
 
 laid-fields-requires : tie.Need-laid-fields-requires
 laid-fields-requires c κs = search needs
 
 returns-3 : tie.Need-returns-3
-returns-3 c array e = copy-wrong _ _ _ _ _ _ (c .before .before .before .before .before .before .before .same-at .ensures) (c .before .before .before .before .before .before .if1 .left) (c .before .before .before .before .before .header-at .ensures) (c .before .before .before .before .header-sum-at .ensures) (c .before .before .if2 .left) (c .before .laid-fields .ensures) (c .if3 .taken) ∙ by (c .before .before .before .before .before .before .before .before .before) array
+returns-3 c array e =
+    let summed = c .before .before in
+    let signed = summed .before .before .before .before in
+    copy-wrong _ _ _ _ _ _ (signed .before .same-at .ensures) (signed .if1 .left) (summed .before .before .before .header-at .ensures) (summed .before .before .header-sum-at .ensures) (summed .if2 .left)
+    (c .before .laid-fields .ensures) (c .if3 .taken)
+    ∙ by (signed .before .before .before) array
 
 returns-4 : tie.Need-returns-4
-returns-4 c array e = copy-array _ _ _ _ _ _ (c .before .before .before .before .before .before .before .before .before .same-at .ensures) (c .before .before .before .before .before .before .before .before .if1 .left) (c .before .before .before .before .before .before .before .header-at .ensures) (c .before .before .before .before .before .before .header-sum-at .ensures) (c .before .before .before .before .if2 .left) (c .before .before .before .laid-fields .ensures) (c .before .before .if3 .left) e (c .if4 .taken) ∙ by (c .before .before .before .before .before .before .before .before .before .before .before) array
+returns-4 c array e =
+    let laid = c .before .before in
+    let summed = laid .before .before in
+    let signed = summed .before .before .before .before in
+    copy-array _ _ _ _ _ _ (signed .before .same-at .ensures) (signed .if1 .left) (summed .before .before .before .header-at .ensures) (summed .before .before .header-sum-at .ensures) (summed .if2 .left)
+    (laid .before .laid-fields .ensures) (laid .if3 .left) e (c .if4 .taken)
+    ∙ by (signed .before .before .before) array
 
 returns-5 : tie.Need-returns-5
-returns-5 c array e = copy-right _ _ _ _ _ _ (c .before .before .before .before .before .before .before .before .before .same-at .ensures) (c .before .before .before .before .before .before .before .before .if1 .left) (c .before .before .before .before .before .before .before .header-at .ensures) (c .before .before .before .before .before .before .header-sum-at .ensures) (c .before .before .before .before .if2 .left) (c .before .before .before .laid-fields .ensures) (c .before .before .if3 .left) e (c .if4 .left) ∙ by (c .before .before .before .before .before .before .before .before .before .before .before) array
+returns-5 c array e =
+    let laid = c .before .before in
+    let summed = laid .before .before in
+    let signed = summed .before .before .before .before in
+    copy-right _ _ _ _ _ _ (signed .before .same-at .ensures) (signed .if1 .left) (summed .before .before .before .header-at .ensures) (summed .before .before .header-sum-at .ensures) (summed .if2 .left)
+    (laid .before .laid-fields .ensures) (laid .if3 .left) e (c .if4 .left)
+    ∙ by (signed .before .before .before) array
 
 pub copy-number-spec : {M : Type 1} → statement M
 copy-number-spec =

@@ -2,8 +2,8 @@
 use mathlib.Core.Path.{_≡_}
 use Prim.Native.Nat.{ℕ}
 use native.Mathlib.Omega.{arith}
-use lib.ListN.{length}
 use borrow.Author.Needs.{needs}
+use lib.ListN.{length}
 use Rattle.units.specs.Bytes.{part}
 use Rattle.card.specs.Checks.{all}
 use Rattle.card.specs.Entries.{entry, okEntry}

@@ -1,11 +1,11 @@
 -- `card::checking::laid_fields` meets its contract: each table has its numbers. Assumes nothing.
 use mathlib.Core.Path.{refl, sym, ap, _∙_}
-use native.Mathlib.Omega.{arith}
-use borrow.Author.Needs.{needs}
 use mathlib.Core.Bool.{Bool}
 use Prim.Native.Nat.{ℕ, _+_}
+use native.Mathlib.Omega.{arith}
+use borrow.Author.Needs.{needs}
 use Rattle.units.specs.Answer.{pick}
-use Rattle.card.specs.Headers.{Side, Front, Back, laidFields}
+use Rattle.card.specs.Headers.{Front, Back, laidFields}
 use Rattle.card.proofs.Builder.{last-fits}
 use Rattle.card.proofs.Good.{room-ok}
 use Rattle.card.proofs.checking.laid_fields.Statement.{statement}
@@ -24,19 +24,28 @@ sub-end : tie.Need-sub-end
 sub-end c = let r = room-ok _ _ (c .before .before .pre) in omega (arith, r .count)
 
 add-fields-are : tie.Need-add-fields-are
-add-fields-are c = let r = room-ok _ _ (c .before .before .before .pre) in omega (arith, r .few, r .count, c .before .last-usable .ensures, last-fits _ _ r (omega arith))
+add-fields-are c =
+    let r = room-ok _ _ (c .before .before .before .pre) in
+    omega (arith, c .before .last-usable .ensures, last-fits _ _ r (omega arith))
 
 fields-are-requires : tie.Need-fields-are-requires
 fields-are-requires c κs = search needs
 
 returns : tie.Need-returns
-returns c = let s = c .before .before .before .before in c .fields-are .ensures (s .args .b) (s .args .len) Back refl refl (c .before .before .before .first-usable .ensures) (c .before .before .last-usable .ensures) (ap (λ (k : ℕ). k + 1) (c .before .before .last-usable .ensures)) ∙ ap (λ (t : Bool). laidFields (s .args .b) (s .args .len) (pick t Back Front) (s .args .h)) (sym (c .before .if1 .taken))
+returns c =
+    let a = c .before .before .before .before .args in
+    let last = c .before .before .last-usable .ensures in
+    c .fields-are .ensures (a .b) (a .len) Back refl refl (c .before .before .before .first-usable .ensures) last (ap (λ (k : ℕ). k + 1) last)
+    ∙ ap (λ (t : Bool). laidFields (a .b) (a .len) (pick t Back Front) (a .h)) (sym (c .before .if1 .taken))
 
 fields-are-requires-2 : tie.Need-fields-are-requires-2
 fields-are-requires-2 c κs = search needs
 
 returns-2 : tie.Need-returns-2
-returns-2 c = let s = c .before .before .before .before in c .fields-are2 .ensures (s .args .b) (s .args .len) Front refl refl (c .before .before .before .first-usable .ensures) (c .before .before .last-usable .ensures) refl ∙ ap (λ (t : Bool). laidFields (s .args .b) (s .args .len) (pick t Back Front) (s .args .h)) (sym (c .before .if1 .left))
+returns-2 c =
+    let a = c .before .before .before .before .args in
+    c .fields-are2 .ensures (a .b) (a .len) Front refl refl (c .before .before .before .first-usable .ensures) (c .before .before .last-usable .ensures) refl
+    ∙ ap (λ (t : Bool). laidFields (a .b) (a .len) (pick t Back Front) (a .h)) (sym (c .before .if1 .left))
 
 pub laid-fields-spec : {M : Type 1} → statement M
 laid-fields-spec =
