@@ -3,7 +3,6 @@ use mathlib.Core.Path.{_≡_, refl, ap}
 use mathlib.Core.List.{List}
 use Prim.Native.Nat.{ℕ}
 use lib.ListN.{length, replicate}
-use Rattle.partition.specs.declared.Partition.{Partition}
 use Rattle.card.proofs.ChangeWays.{record-made}
 use borrow.Author.Needs.{needs}
 use Rattle.card.proofs.changing.record_bytes.Statement.{statement}
