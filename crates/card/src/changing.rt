@@ -1,17 +1,27 @@
 // What put and clear test, and the change that they make: 128 bytes of one slot in both arrays, under lay's headers with the GUID kept.
 use crate::checking;
 use crate::inner;
+use partition::Partition;
 use units::Guid;
+use units::Refusal;
+use units::Slot;
+use units::Verdict;
 ghost use mathlib.Core.Path.{_≡_};
-ghost use mathlib.Core.Bool.{false};
-ghost use Prim.Native.Nat.{_+_, _*_, _-_, _≤_, _<_};
+ghost use mathlib.Core.Bool.{true, false, not, _||_};
+ghost use mathlib.Core.List.{List};
+ghost use Prim.Native.Nat.{ℕ, _+_, _*_, _≤_, _<_};
+ghost use lib.Dec.{ltb};
 ghost use lib.ListN.{length};
 ghost use lib.Seq.{sets};
+ghost use Rattle.units.specs.Bytes.{part};
 ghost use Rattle.units.specs.Guids.{guidBytes};
-ghost use Rattle.card.specs.Places.{backArray};
+ghost use Rattle.units.specs.Meanings.{verdictMeans};
+ghost use Rattle.card.specs.Checks.{when, orElse};
+ghost use Rattle.card.specs.Places.{firstUsable, lastUsable, backArray};
 ghost use Rattle.card.specs.Lens.{tables, withTables};
+ghost use Rattle.card.specs.Entries.{used, firstOf, lastOf};
 ghost use Rattle.card.specs.Check.{roomCheck, guidOf, check};
-ghost use Rattle.card.specs.Calls.{badSlot, changed, clearNumber};
+ghost use Rattle.card.specs.Calls.{judged, badSlot, meets, changed, clearNumber, putNumber, putSlot, putBytes};
 
 // Whether a number is not that of a slot.
 fn bad_slot(slot: u32) -> bool
@@ -32,6 +42,92 @@ pub fn clear_number(img: &[u8], b: u64, slot: u32) -> u32
         return 18;
     }
     0
+}
+
+// The 128 bytes of a record, its name cleared.
+pub fn record_bytes(p: Partition) -> [u8; 128]
+    ensures { λ r. ⌜ (r ≡ putBytes p) × (length r ≡ 128) ⌝ }
+{
+    let part_type_guid = p.part_type_guid;
+    let part_guid = p.part_guid;
+    let first_lba = p.first_lba;
+    let last_lba = p.last_lba;
+    let raw = p.name;
+    let name = partition::inner::clear_name(raw);
+    let named = Partition {
+        part_type_guid,
+        part_guid,
+        first_lba,
+        last_lba,
+        flags: p.flags,
+        name,
+    };
+    let mut e = [0u8; 128];
+    partition::inner::put_entry(&mut e, 0, named);
+    e
+}
+
+// 18, 19, 20, 21 of a record's bytes, in an image of len bytes.
+fn record_number(e: &[u8], slot: u32, len: usize, b: u64) -> u32
+    requires { ⌜ (roomCheck b len ≡ 0) × (length (now e) ≡ 128) ⌝ }
+    ensures { λ r. ⌜ r ≡ orElse (when (badSlot slot) 18) (orElse (when (not (used (now (e .entry)))) 19) (orElse (when (ltb (lastOf (now (e .entry))) (firstOf (now (e .entry)))) 20) (when (ltb (firstOf (now (e .entry))) (firstUsable b) || ltb (lastUsable b len) (lastOf (now (e .entry)))) 21))) ⌝ }
+{
+    if bad_slot(slot) {
+        return 18;
+    }
+    if units::inner::all_zero(e, 0, 16) {
+        return 19;
+    }
+    let first = units::inner::u64_at(e, 32);
+    let last = units::inner::u64_at(e, 40);
+    if last < first {
+        return 20;
+    }
+    let low = checking::first_usable(b);
+    let high = checking::last_usable(len, b);
+    if (first < low) | (high < last) {
+        return 21;
+    }
+    0
+}
+
+// The lowest entry but k, in the array at a place, that shares a block with a used entry that has the blocks from first to last, or 128.
+fn first_met(img: &[u8], at: usize, k: u32, first: u64, last: u64) -> u32
+    requires { ⌜ at + 16384 ≤ length (now img) ⌝ }
+    ensures { λ r. ⌜ ((e : List ℕ) → used e ≡ true → first ≡ firstOf e → last ≡ lastOf e → r ≡ meets (part (now (img .entry)) at 16384) k e) ⌝ }
+{
+    let mut j = 0;
+    while j < 128 {
+        let met = checking::meets(img, at + 128 * (j as usize), first, last);
+        if (j != k) & met {
+            return j;
+        }
+        j += 1;
+    }
+    128
+}
+
+// What put tests, of the record's bytes. 22 has the lowest slot.
+pub fn put_test<'a>(img: &'a [u8], b: u64, slot: u32, e: &'a [u8]) -> Verdict
+    requires { ⌜ length (now e) ≡ 128 ⌝ }
+    ensures { λ r. ⌜ verdictMeans r ≡ judged (putNumber b (length (now (img .entry))) (tables b (now (img .entry))) slot (now (e .entry))) (putSlot b (length (now (img .entry))) (tables b (now (img .entry))) slot (now (e .entry))) tt ⌝ }
+{
+    let found = checking::check_number(img, b);
+    if found != 0 {
+        return checking::verdict_of(found);
+    }
+    let wrong = record_number(e, slot, img.len(), b);
+    if wrong != 0 {
+        return checking::verdict_of(wrong);
+    }
+    let first = units::inner::u64_at(e, 32);
+    let last = units::inner::u64_at(e, 40);
+    let size = b as usize;
+    let j = first_met(img, size + size, slot - 1, first, last);
+    if j < 128 {
+        return Verdict::Refused(Refusal::Overlap(Slot(j + 1)));
+    }
+    Verdict::Accepted
 }
 
 // The disk GUID of the front header.

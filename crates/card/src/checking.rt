@@ -40,14 +40,14 @@ fn room_number(len: usize, b: u64) -> u32
 }
 
 // The usable blocks, from the first to the last.
-fn first_usable(b: u64) -> u64
+pub fn first_usable(b: u64) -> u64
     requires { ⌜ 0 < b ⌝ }
     ensures { λ r. ⌜ r ≡ firstUsable b ⌝ }
 {
     2 + 16384 / b
 }
 
-fn last_usable(len: usize, b: u64) -> u64
+pub fn last_usable(len: usize, b: u64) -> u64
     requires { ⌜ roomCheck b len ≡ 0 ⌝ }
     ensures { λ r. ⌜ r ≡ lastUsable b len ⌝ }
 {

@@ -6,12 +6,13 @@ mod checking; // checking.rt: the card check
 mod laying; // laying.rt: what lay stores
 
 pub use checking::check;
+use partition::Partition;
 use units::Guid;
 use units::Slot;
 use units::Verdict;
 ghost use Rattle.units.specs.Answer.{Ends};
 ghost use Rattle.units.specs.Meanings.{verdictMeans};
-ghost use Rattle.card.specs.Calls.{layOutcome, clearOutcome};
+ghost use Rattle.card.specs.Calls.{layOutcome, putOutcome, clearOutcome};
 
 // Lays an empty card for a disk GUID, the MBR and both tables: 1, 8, 10.
 pub fn lay(img: &mut [u8], b: u64, guid: Guid) -> Verdict
@@ -21,6 +22,20 @@ pub fn lay(img: &mut [u8], b: u64, guid: Guid) -> Verdict
         Verdict::Refused(w) => Verdict::Refused(w),
         Verdict::Accepted => {
             laying::lay_card(img, b, guid);
+            Verdict::Accepted
+        }
+    }
+}
+
+// Puts a record into a slot of both tables, the GUID kept: 18, 19, 20, 21, 22 after the check. 22 has the lowest slot that shares a block.
+pub fn put(img: &mut [u8], b: u64, slot: Slot, p: Partition) -> Verdict
+    ensures { λ r. ⌜ Ends (putOutcome b (now (img .entry)) (slot .0) p) (verdictMeans r) (now (img .exit)) ⌝ }
+{
+    let e = changing::record_bytes(p);
+    match changing::put_test(img, b, slot.0, &e) {
+        Verdict::Refused(w) => Verdict::Refused(w),
+        Verdict::Accepted => {
+            changing::change(img, b, slot.0, &e);
             Verdict::Accepted
         }
     }

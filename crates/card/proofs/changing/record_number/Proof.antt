@@ -1,0 +1,70 @@
+-- `card::changing::record_number` meets its contract: one law for each way out. Assumes nothing.
+use native.Mathlib.Omega.{arith}
+use borrow.Author.Needs.{needs}
+use Rattle.card.proofs.Good.{room-ok}
+use Rattle.card.proofs.ChangeWays.{recordCheck, record-18, record-19, record-20, record-21, record-0}
+use Rattle.card.proofs.changing.record_number.Statement.{statement}
+use Rattle.card.proofs.changing.record_number.Tie as tie
+
+bad-slot-requires : tie.Need-bad-slot-requires
+bad-slot-requires c κs = search needs
+
+returns : tie.Need-returns
+unfolding recordCheck
+returns c = let a = c .before .before .before .args in record-18 (a .b) (a .len) (a .slot) (a .e .now) (c .before .bad-slot .ensures) (c .if1 .taken)
+
+all-zero-requires : tie.Need-all-zero-requires
+all-zero-requires c κs = search needs
+
+returns-2 : tie.Need-returns-2
+unfolding recordCheck
+returns-2 c = let a = c .before .before .before .before .before .args in record-19 (a .b) (a .len) (a .slot) (a .e .now) (c .before .before .before .bad-slot .ensures) (c .before .before .if1 .left) (c .before .all-zero .ensures) (c .if2 .taken)
+
+u64-at-requires : tie.Need-u64-at-requires
+u64-at-requires c κs = search needs
+
+u64-at-requires-2 : tie.Need-u64-at-requires-2
+u64-at-requires-2 c κs = search needs
+
+returns-3 : tie.Need-returns-3
+unfolding recordCheck
+returns-3 c =
+    let a = c .before .before .before .before .before .before .before .before .args in
+    record-20 (a .b) (a .len) (a .slot) (a .e .now) (c .before .before .before .before .before .before .bad-slot .ensures) (c .before .before .before .before .before .if1 .left) (c .before .before .before .before .all-zero .ensures) (c .before .before .before .if2 .left)
+    (c .before .before .u64-at .ensures) (c .before .u64-at2 .ensures) (c .if3 .taken)
+
+first-usable-requires : tie.Need-first-usable-requires
+first-usable-requires c κs = let r = room-ok _ _ (c .before .before .before .before .before .before .before .before .pre .0) in omega (arith, r .least)
+
+last-usable-requires : tie.Need-last-usable-requires
+last-usable-requires c κs = search needs
+
+returns-4 : tie.Need-returns-4
+unfolding recordCheck
+returns-4 c =
+    let a = c .before .before .before .before .before .before .before .before .before .before .before .args in
+    record-21 (a .b) (a .len) (a .slot) (a .e .now) (c .before .before .before .before .before .before .before .before .before .bad-slot .ensures) (c .before .before .before .before .before .before .before .before .if1 .left) (c .before .before .before .before .before .before .before .all-zero .ensures) (c .before .before .before .before .before .before .if2 .left)
+    (c .before .before .before .before .before .u64-at .ensures) (c .before .before .before .before .u64-at2 .ensures) (c .before .before .before .if3 .left) (c .before .before .first-usable .ensures) (c .before .last-usable .ensures) (c .if4 .taken)
+
+returns-5 : tie.Need-returns-5
+unfolding recordCheck
+returns-5 c =
+    let a = c .before .before .before .before .before .before .before .before .before .before .before .args in
+    record-0 (a .b) (a .len) (a .slot) (a .e .now) (c .before .before .before .before .before .before .before .before .before .bad-slot .ensures) (c .before .before .before .before .before .before .before .before .if1 .left) (c .before .before .before .before .before .before .before .all-zero .ensures) (c .before .before .before .before .before .before .if2 .left)
+    (c .before .before .before .before .before .u64-at .ensures) (c .before .before .before .before .u64-at2 .ensures) (c .before .before .before .if3 .left) (c .before .before .first-usable .ensures) (c .before .last-usable .ensures) (c .if4 .left)
+
+pub record-number-spec : {M : Type 1} → statement M
+record-number-spec =
+    tie.close
+    (tie.spec
+    bad-slot-requires
+    returns
+    all-zero-requires
+    returns-2
+    u64-at-requires
+    u64-at-requires-2
+    returns-3
+    first-usable-requires
+    last-usable-requires
+    returns-4
+    returns-5)
