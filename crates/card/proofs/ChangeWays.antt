@@ -65,10 +65,10 @@ clear-fine B n t s h = (else-first (check B n t) _ h, none-when (badSlot s) 18 t
 -- ---- the number of put
 
 -- a check that applies, and one that does not
-here : {t : Bool} (k m : ℕ) → t ≡ true → suc k ≡ orElse (when t (suc k)) m
+pub here : {t : Bool} (k m : ℕ) → t ≡ true → suc k ≡ orElse (when t (suc k)) m
 here k m q = rw q
 
-on : {t : Bool} (k : ℕ) {r m : ℕ} → t ≡ false → r ≡ m → r ≡ orElse (when t k) m
+pub on : {t : Bool} (k : ℕ) {r m : ℕ} → t ≡ false → r ≡ m → r ≡ orElse (when t k) m
 on k q h = rw q h
 
 -- 18, 19, 20, 21
@@ -149,7 +149,7 @@ module _ (arr : List ℕ) (k : ℕ) (e : List ℕ) where
   unfolding meets
   met-none j h low = sym (lowest-none 128 (λ (i : ℕ). pick (eqb i k) false (clash e (entry arr i))) (λ i q. low i (omega arith)))
 
-else-assoc : (a b m : ℕ) → orElse a (orElse b m) ≡ orElse (orElse a b) m
+pub else-assoc : (a b m : ℕ) → orElse a (orElse b m) ≡ orElse (orElse a b) m
 else-assoc zero b m = refl
 else-assoc (suc a) b m = refl
 

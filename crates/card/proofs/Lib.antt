@@ -23,3 +23,4 @@ pub mod Ways
 pub mod LayWays
 pub mod CheckWays
 pub mod ChangeWays
+pub mod PayWays

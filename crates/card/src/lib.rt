@@ -4,15 +4,18 @@ pub mod inner; // inner.rt: the leaves that lay, put and clear share
 mod changing; // changing.rt: what put and clear test and store
 mod checking; // checking.rt: the card check
 mod laying; // laying.rt: what lay stores
+mod paying; // paying.rt: what a payload write tests and stores
 
 pub use checking::check;
 use partition::Partition;
+use units::BytePlace;
 use units::Guid;
 use units::Slot;
+use units::Stored;
 use units::Verdict;
 ghost use Rattle.units.specs.Answer.{Ends};
-ghost use Rattle.units.specs.Meanings.{verdictMeans};
-ghost use Rattle.card.specs.Calls.{layOutcome, putOutcome, clearOutcome};
+ghost use Rattle.units.specs.Meanings.{verdictMeans, storedMeans};
+ghost use Rattle.card.specs.Calls.{layOutcome, putOutcome, clearOutcome, payloadOutcome};
 
 // Lays an empty card for a disk GUID, the MBR and both tables: 1, 8, 10.
 pub fn lay(img: &mut [u8], b: u64, guid: Guid) -> Verdict
@@ -52,4 +55,19 @@ pub fn clear(img: &mut [u8], b: u64, slot: Slot) -> Verdict
     let e = [0u8; 128];
     changing::change(img, b, slot.0, &e);
     Verdict::Accepted
+}
+
+// Writes bytes at a place of a slot's partition, and nothing else: 18, 23, 24 after the check. It gives how many bytes it stored.
+pub fn write_payload(img: &mut [u8], b: u64, slot: Slot, place: BytePlace, bytes: &[u8]) -> Stored
+    ensures { λ r. ⌜ Ends (payloadOutcome b (now (img .entry)) (slot .0) (place .0) (now (bytes .entry))) (storedMeans r) (now (img .exit)) ⌝ }
+{
+    let n = bytes.len();
+    let found = paying::payload_number(img, b, slot.0, place.0, n);
+    match checking::verdict_of(found) {
+        Verdict::Refused(w) => Stored::Refused(w),
+        Verdict::Accepted => {
+            paying::pay(img, b, slot.0, place.0, bytes);
+            Stored::Bytes(n)
+        }
+    }
 }
