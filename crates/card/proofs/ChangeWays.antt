@@ -21,23 +21,23 @@ use Rattle.crc32.specs.Crc.{crc}
 use Rattle.partition.specs.declared.Partition.{Partition}
 use Rattle.partition.specs.Format.{entryBytes, named}
 use Rattle.partition.proofs.Laws.{length-entry, length-cleared}
-use Rattle.card.specs.Checks.{when, orElse, lowest}
-use Rattle.card.specs.Places.{firstUsable, lastUsable, backArray, backHeader}
-use Rattle.card.specs.Lens.{Tables, tablesAt, tables, withTables}
-use Rattle.card.specs.Entries.{zeros, entry, setEntry, used, firstOf, lastOf, clash}
-use Rattle.card.specs.Headers.{Side, Front, Back, copyOf, headBlock}
-use Rattle.card.specs.Check.{roomCheck, guidOf, check}
-use Rattle.card.specs.Calls.{judged, settle, badSlot, meets, changed, putNumber, putSlot, putAt, putBytes, clearNumber, clearAt}
-use Rattle.card.proofs.Room.{Room}
-use Rattle.card.proofs.EntryLaws.{length-set-entry}
-use Rattle.card.proofs.Good.{room-ok, card-whole}
-use Rattle.card.proofs.State.{judged-none, settle-accepted, accepted-good, accepted-array}
-use Rattle.card.proofs.Orders.{split, by-test, else-first, else-second, none-when, below-lowest, at-lowest, lowest-none}
-use Rattle.card.proofs.Changes.{slot-ok}
-use Rattle.card.proofs.Stores.{sets-within, newHeader, change-stored}
-use Rattle.card.proofs.LayWays.{head-block, settled}
-use Rattle.card.proofs.ReadCheck.{guid-part-of}
-use Rattle.card.proofs.CheckWays.{else-here, else-on, else-most, when-most, check-most}
+use Rattle.tables.specs.Checks.{when, orElse, lowest}
+use Rattle.tables.specs.Places.{firstUsable, lastUsable, backArray, backHeader}
+use Rattle.tables.specs.Lens.{Tables, tablesAt, tables, withTables}
+use Rattle.tables.specs.Entries.{zeros, entry, setEntry, used, firstOf, lastOf, clash}
+use Rattle.tables.specs.Headers.{Side, Front, Back, copyOf, headBlock}
+use Rattle.tables.specs.Check.{roomCheck, guidOf, check}
+use Rattle.tables.specs.Calls.{judged, settle, badSlot, meets, changed, putNumber, putSlot, putAt, putBytes, clearNumber, clearAt}
+use Rattle.tables.proofs.Room.{Room}
+use Rattle.tables.proofs.EntryLaws.{length-set-entry}
+use Rattle.tables.proofs.Good.{room-ok, card-whole}
+use Rattle.tables.proofs.State.{judged-none, settle-accepted, accepted-good, accepted-array}
+use Rattle.tables.proofs.Orders.{split, by-test, else-first, else-second, none-when, below-lowest, at-lowest, lowest-none}
+use Rattle.tables.proofs.Changes.{slot-ok}
+use Rattle.tables.proofs.Stores.{sets-within, newHeader, change-stored}
+use Rattle.tables.proofs.LayWays.{head-block, settled}
+use Rattle.tables.proofs.ReadCheck.{guid-part-of}
+use Rattle.checking.proofs.CheckWays.{else-here, else-on, else-most, when-most, check-most}
 
 -- ---- the number of clear
 

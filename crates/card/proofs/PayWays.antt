@@ -12,21 +12,21 @@ use lib.ListN.{length}
 use lib.Seq.{sets}
 use Rattle.units.specs.Answer.{Why, Answer, accepted, refused, Ends, ends}
 use Rattle.units.specs.Bytes.{part, num, allZero}
-use Rattle.card.specs.Checks.{when, orElse}
-use Rattle.card.specs.Places.{lastUsable}
-use Rattle.card.specs.Lens.{Tables, tablesAt, tables}
-use Rattle.card.specs.Entries.{entry, used, firstOf, lastOf}
-use Rattle.card.specs.Check.{check}
-use Rattle.card.specs.Calls.{judged, badSlot, clearNumber, payloadNumber, payloadPlace, payloadAt}
-use Rattle.card.proofs.Orders.{else-first}
-use Rattle.card.proofs.Room.{Room}
-use Rattle.card.proofs.EntryLaws.{Inside, ok-used}
-use Rattle.card.proofs.Good.{room-ok}
-use Rattle.card.proofs.State.{judged-zero, accepted-good}
-use Rattle.card.proofs.Changes.{slot-ok}
-use Rattle.card.proofs.Payload.{pay-fits}
-use Rattle.card.proofs.LayWays.{settled}
-use Rattle.card.proofs.CheckWays.{else-here, else-on, else-most, when-most, own-used, own-first, own-last}
+use Rattle.tables.specs.Checks.{when, orElse}
+use Rattle.tables.specs.Places.{lastUsable}
+use Rattle.tables.specs.Lens.{Tables, tablesAt, tables}
+use Rattle.tables.specs.Entries.{entry, used, firstOf, lastOf}
+use Rattle.tables.specs.Check.{check}
+use Rattle.tables.specs.Calls.{judged, badSlot, clearNumber, payloadNumber, payloadPlace, payloadAt}
+use Rattle.tables.proofs.Orders.{else-first}
+use Rattle.tables.proofs.Room.{Room}
+use Rattle.tables.proofs.EntryLaws.{Inside, ok-used}
+use Rattle.tables.proofs.Good.{room-ok}
+use Rattle.tables.proofs.State.{judged-zero, accepted-good}
+use Rattle.tables.proofs.Changes.{slot-ok}
+use Rattle.tables.proofs.Payload.{pay-fits}
+use Rattle.tables.proofs.LayWays.{settled}
+use Rattle.checking.proofs.CheckWays.{else-here, else-on, else-most, when-most, own-used, own-first, own-last}
 use Rattle.card.proofs.ChangeWays.{here, on, else-assoc, clear-fine, clear-most}
 
 -- ---- the number

@@ -1,7 +1,6 @@
 // What put and clear test, and the change that they make: 128 bytes of one slot in both arrays, under lay's headers with the GUID kept.
-use crate::checking;
-use crate::inner;
 use partition::Partition;
+use tables::inner;
 use units::Guid;
 use units::Refusal;
 use units::Slot;
@@ -16,12 +15,12 @@ ghost use lib.Seq.{sets};
 ghost use Rattle.units.specs.Bytes.{part};
 ghost use Rattle.units.specs.Guids.{guidBytes};
 ghost use Rattle.units.specs.Meanings.{verdictMeans};
-ghost use Rattle.card.specs.Checks.{when, orElse};
-ghost use Rattle.card.specs.Places.{firstUsable, lastUsable, backArray};
-ghost use Rattle.card.specs.Lens.{tables, withTables};
-ghost use Rattle.card.specs.Entries.{used, firstOf, lastOf};
-ghost use Rattle.card.specs.Check.{roomCheck, guidOf, check};
-ghost use Rattle.card.specs.Calls.{judged, badSlot, meets, changed, clearNumber, putNumber, putSlot, putBytes};
+ghost use Rattle.tables.specs.Checks.{when, orElse};
+ghost use Rattle.tables.specs.Places.{firstUsable, lastUsable, backArray};
+ghost use Rattle.tables.specs.Lens.{tables, withTables};
+ghost use Rattle.tables.specs.Entries.{used, firstOf, lastOf};
+ghost use Rattle.tables.specs.Check.{roomCheck, guidOf, check};
+ghost use Rattle.tables.specs.Calls.{judged, badSlot, meets, changed, clearNumber, putNumber, putSlot, putBytes};
 
 // Whether a number is not that of a slot.
 fn bad_slot(slot: u32) -> bool
@@ -34,7 +33,7 @@ fn bad_slot(slot: u32) -> bool
 pub fn clear_number(img: &[u8], b: u64, slot: u32) -> u32
     ensures { λ r. ⌜ r ≡ clearNumber b (length (now (img .entry))) (tables b (now (img .entry))) slot ⌝ }
 {
-    let found = checking::check_number(img, b);
+    let found = checking::inner::check_number(img, b);
     if found != 0 {
         return found;
     }
@@ -83,8 +82,8 @@ fn record_number(e: &[u8], slot: u32, len: usize, b: u64) -> u32
     if last < first {
         return 20;
     }
-    let low = checking::first_usable(b);
-    let high = checking::last_usable(len, b);
+    let low = checking::inner::first_usable(b);
+    let high = checking::inner::last_usable(len, b);
     if (first < low) | (high < last) {
         return 21;
     }
@@ -98,7 +97,7 @@ fn first_met(img: &[u8], at: usize, k: u32, first: u64, last: u64) -> u32
 {
     let mut j = 0;
     while j < 128 {
-        let met = checking::meets(img, at + 128 * (j as usize), first, last);
+        let met = checking::inner::meets(img, at + 128 * (j as usize), first, last);
         if (j != k) & met {
             return j;
         }
@@ -112,13 +111,13 @@ pub fn put_test<'a>(img: &'a [u8], b: u64, slot: u32, e: &'a [u8]) -> Verdict
     requires { ⌜ length (now e) ≡ 128 ⌝ }
     ensures { λ r. ⌜ verdictMeans r ≡ judged (putNumber b (length (now (img .entry))) (tables b (now (img .entry))) slot (now (e .entry))) (putSlot b (length (now (img .entry))) (tables b (now (img .entry))) slot (now (e .entry))) tt ⌝ }
 {
-    let found = checking::check_number(img, b);
+    let found = checking::inner::check_number(img, b);
     if found != 0 {
-        return checking::verdict_of(found);
+        return checking::inner::verdict_of(found);
     }
     let wrong = record_number(e, slot, img.len(), b);
     if wrong != 0 {
-        return checking::verdict_of(wrong);
+        return checking::inner::verdict_of(wrong);
     }
     let first = units::inner::u64_at(e, 32);
     let last = units::inner::u64_at(e, 40);
@@ -159,6 +158,6 @@ pub fn change(img: &mut [u8], b: u64, slot: u32, e: &[u8])
     let guid = kept_guid(img, size);
     let t = crc32::inner::table();
     put_slots(img, size, slot as usize - 1, e);
-    let parts = checking::array_sum(&t, img, size + size);
+    let parts = checking::inner::array_sum(&t, img, size + size);
     inner::put_header_blocks(&t, img, b, guid, parts);
 }

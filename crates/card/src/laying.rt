@@ -1,6 +1,6 @@
 // What lay stores, once the image is known to have room: the protective MBR, two arrays of zeros, and both header blocks.
-use crate::inner;
 use mbr::ProtectiveMbr;
+use tables::inner;
 use units::Guid;
 ghost use mathlib.Core.Path.{_≡_};
 ghost use Prim.Native.Nat.{_+_, _-_, _≤_};
@@ -12,11 +12,11 @@ ghost use Rattle.units.specs.Bytes.{part};
 ghost use Rattle.units.specs.Guids.{guidBytes};
 ghost use Rattle.crc32.specs.Crc.{crc};
 ghost use Rattle.crc32.specs.Rows.{Rows};
-ghost use Rattle.card.specs.Places.{blocks, backArray, backHeader};
-ghost use Rattle.card.specs.Entries.{zeros};
-ghost use Rattle.card.specs.Headers.{Front, Back, copyOf};
-ghost use Rattle.card.specs.Check.{roomCheck};
-ghost use Rattle.card.specs.Calls.{mbr};
+ghost use Rattle.tables.specs.Places.{blocks, backArray, backHeader};
+ghost use Rattle.tables.specs.Entries.{zeros};
+ghost use Rattle.tables.specs.Headers.{Front, Back, copyOf};
+ghost use Rattle.tables.specs.Check.{roomCheck};
+ghost use Rattle.tables.specs.Calls.{mbr};
 
 // The size of the protective record, for a backup in block k.
 fn record_size(k: u64) -> u32

@@ -1,8 +1,7 @@
 // The card: both tables laid, checked, changed and listed together, and payload written inside a partition. What each call promises is in specs/.
 // Here stand the public calls: each takes every image and every number. `inner` has the leaves for our own crates.
-pub mod inner; // inner.rt: the leaves that lay, put and clear share
+
 mod changing; // changing.rt: what put and clear test and store
-mod checking; // checking.rt: the card check
 mod laying; // laying.rt: what lay stores
 mod paying; // paying.rt: what a payload write tests and stores
 
@@ -15,13 +14,13 @@ use units::Stored;
 use units::Verdict;
 ghost use Rattle.units.specs.Answer.{Ends};
 ghost use Rattle.units.specs.Meanings.{verdictMeans, storedMeans};
-ghost use Rattle.card.specs.Calls.{layOutcome, putOutcome, clearOutcome, payloadOutcome};
+ghost use Rattle.tables.specs.Calls.{layOutcome, putOutcome, clearOutcome, payloadOutcome};
 
 // Lays an empty card for a disk GUID, the MBR and both tables: 1, 8, 10.
 pub fn lay(img: &mut [u8], b: u64, guid: Guid) -> Verdict
     ensures { λ r. ⌜ Ends (layOutcome b (now (img .entry)) guid) (verdictMeans r) (now (img .exit)) ⌝ }
 {
-    match inner::room(img.len(), b) {
+    match tables::inner::room(img.len(), b) {
         Verdict::Refused(w) => Verdict::Refused(w),
         Verdict::Accepted => {
             laying::lay_card(img, b, guid);
@@ -50,7 +49,7 @@ pub fn clear(img: &mut [u8], b: u64, slot: Slot) -> Verdict
 {
     let found = changing::clear_number(img, b, slot.0);
     if found != 0 {
-        return checking::verdict_of(found);
+        return checking::inner::verdict_of(found);
     }
     let e = [0u8; 128];
     changing::change(img, b, slot.0, &e);
@@ -63,7 +62,7 @@ pub fn write_payload(img: &mut [u8], b: u64, slot: Slot, place: BytePlace, bytes
 {
     let n = bytes.len();
     let found = paying::payload_number(img, b, slot.0, place.0, n);
-    match checking::verdict_of(found) {
+    match checking::inner::verdict_of(found) {
         Verdict::Refused(w) => Stored::Refused(w),
         Verdict::Accepted => {
             paying::pay(img, b, slot.0, place.0, bytes);

@@ -3,8 +3,8 @@ use crate::changing;
 ghost use mathlib.Core.Path.{_≡_};
 ghost use lib.ListN.{length};
 ghost use lib.Seq.{sets};
-ghost use Rattle.card.specs.Lens.{tables};
-ghost use Rattle.card.specs.Calls.{payloadNumber, payloadPlace};
+ghost use Rattle.tables.specs.Lens.{tables};
+ghost use Rattle.tables.specs.Calls.{payloadNumber, payloadPlace};
 
 // The number of a payload write of n bytes at a place of the partition: 18, 23, 24 after the check. The sum of place and n is never taken, so it cannot wrap.
 pub fn payload_number(img: &[u8], b: u64, slot: u32, place: usize, n: usize) -> u32

@@ -3,8 +3,8 @@ use mathlib.Core.Path.{refl, sym, _∙_}
 use native.Mathlib.Omega.{arith}
 use borrow.Author.Needs.{needs}
 use lib.ListN.{length}
-use Rattle.card.specs.Lens.{tables}
-use Rattle.card.specs.Entries.{zeros}
+use Rattle.tables.specs.Lens.{tables}
+use Rattle.tables.specs.Entries.{zeros}
 use Rattle.card.proofs.ChangeWays.{clear-most, clear-fine, clear-refuses, clear-ends}
 use Rattle.card.proofs.clear.Statement.{statement}
 use Rattle.card.proofs.clear.Tie as tie

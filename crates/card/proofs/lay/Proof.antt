@@ -5,9 +5,9 @@ use lib.ListN.{length}
 use Rattle.units.specs.Guids.{guidBytes}
 use Rattle.units.specs.Meanings.{verdictMeans}
 use Rattle.units.proofs.GuidLaws.{length-guid}
-use Rattle.card.proofs.State.{judged-zero}
-use Rattle.card.proofs.Stores.{lay-stored}
-use Rattle.card.proofs.LayWays.{lay-refuses}
+use Rattle.tables.proofs.State.{judged-zero}
+use Rattle.tables.proofs.Stores.{lay-stored}
+use Rattle.tables.proofs.LayWays.{lay-refuses}
 use Rattle.card.proofs.lay.Statement.{statement}
 use Rattle.card.proofs.lay.Tie as tie
 

@@ -3,8 +3,8 @@ use mathlib.Core.Path.{sym, ap, _∙_}
 use borrow.Author.Needs.{needs}
 use lib.ListN.{length}
 use Rattle.units.specs.Meanings.{verdictMeans}
-use Rattle.card.specs.Lens.{tables}
-use Rattle.card.proofs.State.{judged-zero}
+use Rattle.tables.specs.Lens.{tables}
+use Rattle.tables.proofs.State.{judged-zero}
 use Rattle.card.proofs.ChangeWays.{put-fine, put-refuses, put-ends}
 use Rattle.card.proofs.put.Statement.{statement}
 use Rattle.card.proofs.put.Tie as tie

@@ -4,8 +4,8 @@ use native.Mathlib.Omega.{arith}
 use borrow.Author.Needs.{needs}
 use lib.ListN.{length}
 use Rattle.units.specs.Meanings.{verdictMeans}
-use Rattle.card.specs.Lens.{tables}
-use Rattle.card.proofs.Payload.{payload-stored}
+use Rattle.tables.specs.Lens.{tables}
+use Rattle.tables.proofs.Payload.{payload-stored}
 use Rattle.card.proofs.PayWays.{pay-most, pay-fine, pay-refuses}
 use Rattle.card.proofs.write_payload.Statement.{statement}
 use Rattle.card.proofs.write_payload.Tie as tie

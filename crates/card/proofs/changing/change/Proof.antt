@@ -4,8 +4,8 @@ use native.Mathlib.Omega.{arith}
 use borrow.Author.Needs.{needs}
 use lib.ListN.{length}
 use lib.Seq.{length-sets}
-use Rattle.card.proofs.Good.{room-ok}
-use Rattle.card.proofs.Changes.{slot-ok}
+use Rattle.tables.proofs.Good.{room-ok}
+use Rattle.tables.proofs.Changes.{slot-ok}
 use Rattle.card.proofs.ChangeWays.{check-has-room, all-changed}
 use Rattle.card.proofs.changing.change.Statement.{statement}
 use Rattle.card.proofs.changing.change.Tie as tie

@@ -8,8 +8,8 @@ use borrow.Author.Needs.{needs}
 use lib.Dec.{eqb}
 use Rattle.units.specs.Answer.{pick}
 use Rattle.units.specs.Bytes.{part}
-use Rattle.card.specs.Entries.{entry, used, firstOf, lastOf, clash}
-use Rattle.card.proofs.CheckWays.{entry-part}
+use Rattle.tables.specs.Entries.{entry, used, firstOf, lastOf, clash}
+use Rattle.checking.proofs.CheckWays.{entry-part}
 use Rattle.card.proofs.ChangeWays.{met-is, met-more, met-first, met-none}
 use Rattle.card.proofs.changing.first_met.Statement.{statement}
 use Rattle.card.proofs.changing.first_met.Tie as tie

@@ -1,6 +1,6 @@
 -- `card::changing::kept_guid` meets its contract. Assumes nothing.
 use native.Mathlib.Omega.{arith}
-use Rattle.card.proofs.Good.{room-ok}
+use Rattle.tables.proofs.Good.{room-ok}
 use Rattle.card.proofs.ChangeWays.{front-kept}
 use Rattle.card.proofs.changing.kept_guid.Statement.{statement}
 use Rattle.card.proofs.changing.kept_guid.Tie as tie

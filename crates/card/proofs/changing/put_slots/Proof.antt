@@ -2,7 +2,7 @@
 use Prim.Native.Nat.{_+_, _*_}
 use native.Mathlib.Omega.{arith}
 use borrow.Author.Needs.{needs}
-use Rattle.card.proofs.Good.{room-ok}
+use Rattle.tables.proofs.Good.{room-ok}
 use Rattle.card.proofs.ChangeWays.{slots-stored}
 use Rattle.card.proofs.changing.put_slots.Statement.{statement}
 use Rattle.card.proofs.changing.put_slots.Tie as tie

@@ -3,12 +3,12 @@ use mathlib.Core.Path.{_≡_, sym, _∙_}
 use native.Mathlib.Omega.{arith}
 use borrow.Author.Needs.{needs}
 use lib.ListN.{length}
-use Rattle.card.specs.Lens.{tables, tablesAt}
-use Rattle.card.specs.Entries.{firstOf, lastOf}
-use Rattle.card.proofs.Good.{room-ok}
-use Rattle.card.proofs.Ways.{check-never-22}
-use Rattle.card.proofs.Changes.{slot-ok}
-use Rattle.card.proofs.CheckWays.{check-most}
+use Rattle.tables.specs.Lens.{tables, tablesAt}
+use Rattle.tables.specs.Entries.{firstOf, lastOf}
+use Rattle.tables.proofs.Good.{room-ok}
+use Rattle.tables.proofs.Ways.{check-never-22}
+use Rattle.tables.proofs.Changes.{slot-ok}
+use Rattle.checking.proofs.CheckWays.{check-most}
 use Rattle.card.proofs.ChangeWays.{recordCheck, record-most, record-fine, check-has-room, put-judged, put-found, put-wrong, put-met, put-free}
 use Rattle.card.proofs.changing.put_test.Statement.{statement}
 use Rattle.card.proofs.changing.put_test.Tie as tie

@@ -1,7 +1,7 @@
 -- `card::changing::record_number` meets its contract: one law for each way out. Assumes nothing.
 use native.Mathlib.Omega.{arith}
 use borrow.Author.Needs.{needs}
-use Rattle.card.proofs.Good.{room-ok}
+use Rattle.tables.proofs.Good.{room-ok}
 use Rattle.card.proofs.ChangeWays.{recordCheck, record-18, record-19, record-20, record-21, record-0}
 use Rattle.card.proofs.changing.record_number.Statement.{statement}
 use Rattle.card.proofs.changing.record_number.Tie as tie

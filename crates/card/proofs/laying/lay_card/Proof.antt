@@ -4,8 +4,8 @@ use native.Mathlib.Omega.{arith}
 use borrow.Author.Needs.{needs}
 use lib.ListN.{length}
 use lib.Seq.{length-sets}
-use Rattle.card.proofs.Good.{room-ok}
-use Rattle.card.proofs.LayWays.{lay-laid}
+use Rattle.tables.proofs.Good.{room-ok}
+use Rattle.tables.proofs.LayWays.{lay-laid}
 use Rattle.card.proofs.laying.lay_card.Statement.{statement}
 use Rattle.card.proofs.laying.lay_card.Tie as tie
 

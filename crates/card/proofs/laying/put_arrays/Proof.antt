@@ -2,9 +2,9 @@
 use Prim.Native.Nat.{_+_}
 use native.Mathlib.Omega.{arith}
 use borrow.Author.Needs.{needs}
-use Rattle.card.specs.Entries.{zeros}
-use Rattle.card.proofs.Good.{room-ok}
-use Rattle.card.proofs.LayWays.{arrays-stored}
+use Rattle.tables.specs.Entries.{zeros}
+use Rattle.tables.proofs.Good.{room-ok}
+use Rattle.tables.proofs.LayWays.{arrays-stored}
 use Rattle.card.proofs.laying.put_arrays.Statement.{statement}
 use Rattle.card.proofs.laying.put_arrays.Tie as tie
 

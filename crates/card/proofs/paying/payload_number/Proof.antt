@@ -3,7 +3,7 @@ use mathlib.Core.Path.{sym, _∙_}
 use native.Mathlib.Omega.{arith}
 use borrow.Author.Needs.{needs}
 use lib.ListN.{length}
-use Rattle.card.specs.Lens.{tables}
+use Rattle.tables.specs.Lens.{tables}
 use Rattle.card.proofs.PayWays.{Site, Span, pay-found, pay-site, pay-23, pay-span, pay-24, pay-0}
 use Rattle.card.proofs.paying.payload_number.Statement.{statement}
 use Rattle.card.proofs.paying.payload_number.Tie as tie

@@ -1,0 +1,63 @@
+-- `checking::inner::all_apart` meets its contract. The invariant: no two of the entries that were passed share a block. Assumes nothing.
+use mathlib.Core.Path.{_≡_, sym, _∙_}
+use mathlib.Core.Bool.{true, not}
+use Prim.Native.Nat.{ℕ, _-_, _≤_}
+use native.Mathlib.Omega.{arith}
+use borrow.Author.Tests.{not-true, not-false}
+use borrow.Author.Needs.{needs}
+use Rattle.units.specs.Bytes.{part}
+use Rattle.tables.specs.Checks.{all}
+use Rattle.tables.specs.Entries.{entry, clash}
+use Rattle.checking.proofs.CheckWays.{all-fails, all-more, all-end, all-start, square}
+use Rattle.checking.proofs.inner.all_apart.Statement.{statement}
+use Rattle.checking.proofs.inner.all_apart.Tie as tie
+
+abbrev Inv-loop : tie.InvT-loop
+Inv-loop img at k₀ k =
+    (k ≤ 128) × (all k (λ (i : ℕ). all i (λ (j : ℕ). not (clash (entry (part img at 16384) i) (entry (part img at 16384) j)))) ≡ true)
+
+abbrev μ-loop : tie.MeasureT-loop
+μ-loop img at k₀ k = 128 - k
+
+loop-holds : tie.Need-loop-holds Inv-loop μ-loop
+loop-holds c = (omega arith, all-start _)
+
+apart-below-requires : tie.Need-apart-below-requires Inv-loop μ-loop
+apart-below-requires c κs = search needs
+
+returns : tie.Need-returns Inv-loop μ-loop
+returns c =
+    let a = c .before .before .before .before .before .args in
+    sym (all-fails 128 _ (c .before .before .before .loop .k) (omega arith) (sym (c .before .apart-below .ensures) ∙ not-true _ (c .if1 .taken)))
+    ∙ square (part (a .img .now) (a .at) 16384)
+
+add-k : tie.Need-add-k Inv-loop μ-loop
+add-k c = search needs
+
+loop-less : tie.Need-loop-less Inv-loop μ-loop
+loop-less c = omega arith
+
+loop-again : tie.Need-loop-again Inv-loop μ-loop
+loop-again c =
+    let l = c .before .before .before .loop in
+    (omega arith, all-more (l .k) _ (l .inv .1) (sym (c .before .apart-below .ensures) ∙ not-false _ (c .if1 .left)))
+
+returns-2 : tie.Need-returns-2 Inv-loop μ-loop
+returns-2 c =
+    let a = c .before .before .before .args in
+    let l = c .before .loop in
+    all-end (l .k) 128 _ (omega arith) (omega arith) (l .inv .1) ∙ square (part (a .img .now) (a .at) 16384)
+
+pub all-apart-spec : {M : Type 1} → statement M
+all-apart-spec =
+    tie.close
+    (tie.spec
+    Inv-loop
+    μ-loop
+    loop-holds
+    apart-below-requires
+    returns
+    add-k
+    loop-less
+    loop-again
+    returns-2)

@@ -1,0 +1,47 @@
+-- `checking::inner::entries_ok` meets its contract. Assumes nothing.
+use mathlib.Core.Path.{_≡_}
+use Prim.Native.Nat.{ℕ}
+use native.Mathlib.Omega.{arith}
+use borrow.Author.Needs.{needs}
+use lib.ListN.{length}
+use Rattle.units.specs.Bytes.{part}
+use Rattle.tables.specs.Checks.{all}
+use Rattle.tables.specs.Entries.{entry, okEntry}
+use Rattle.tables.proofs.Good.{room-ok}
+use Rattle.checking.proofs.CheckWays.{entries-bad, entries-apart}
+use Rattle.checking.proofs.inner.entries_ok.Statement.{statement}
+use Rattle.checking.proofs.inner.entries_ok.Tie as tie
+
+first-usable-requires : tie.Need-first-usable-requires
+first-usable-requires c κs = let r = room-ok _ _ (c .before .pre .0) in omega (arith, r .least)
+
+last-usable-requires : tie.Need-last-usable-requires
+last-usable-requires c κs = search needs
+
+each-ok-requires : tie.Need-each-ok-requires
+each-ok-requires c κs = search needs
+
+-- whether each entry is good, as the code finds it
+each : (c : tie.After-each-ok) → let a = c .before .before .before .before .args in
+    c .each-ok .result ≡ all 128 (λ (k : ℕ). okEntry (a .b) (length (a .img .now)) (entry (part (a .img .now) (a .at) 16384) k))
+each c = c .each-ok .ensures _ _ (c .before .before .first-usable .ensures) (c .before .last-usable .ensures)
+
+returns : tie.Need-returns
+returns c = entries-bad _ _ _ (each (c .before)) (c .if1 .taken)
+
+all-apart-requires : tie.Need-all-apart-requires
+all-apart-requires c κs = search needs
+
+returns-2 : tie.Need-returns-2
+returns-2 c = entries-apart _ _ _ (each (c .before .before)) (c .before .if1 .left) (c .all-apart .ensures)
+
+pub entries-ok-spec : {M : Type 1} → statement M
+entries-ok-spec =
+    tie.close
+    (tie.spec
+    first-usable-requires
+    last-usable-requires
+    each-ok-requires
+    returns
+    all-apart-requires
+    returns-2)

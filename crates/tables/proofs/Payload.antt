@@ -1,0 +1,112 @@
+-- What a payload write tells where it is accepted: its bytes lie in the partition, so between the tables; they are stored there, and nothing else changes.
+-- No contract cites this file. Assumes nothing.
+use mathlib.Core.Path.{_≡_, sym, ap, _∙_}
+use mathlib.Core.Bool.{true, false, not}
+use mathlib.Core.List.{List}
+use Prim.Native.Nat.{ℕ, _+_, _*_, _-_, _≤_, _<_}
+use native.Mathlib.Nat.{mul-le-mul-right, add-mul}
+use native.Mathlib.Omega.{arith}
+use borrow.Author.Tests.{not-false, ltb-false, le-ltb}
+use lib.Dec.{ltb}
+use lib.ListN.{length, getD}
+use lib.Seq.{sets, length-sets}
+use Rattle.units.specs.Answer.{accepted, refused, gives, Ends, ends}
+use Rattle.units.specs.Bytes.{part}
+use Rattle.units.proofs.Lists.{part-same, getD-out}
+use Rattle.tables.specs.Checks.{when}
+use Rattle.tables.specs.Places.{firstUsable, lastUsable, backArray}
+use Rattle.tables.specs.Lens.{Tables, tablesAt}
+use Rattle.tables.specs.Entries.{entry, used, firstOf, lastOf}
+use Rattle.tables.specs.Check.{guidOf, check}
+use Rattle.tables.specs.Calls.{badSlot, payloadNumber, payloadPlace, payloadAt}
+use Rattle.tables.proofs.Orders.{Outside, else-none, else-first, else-second, when-none, none-when, neither}
+use Rattle.tables.proofs.Room.{Room}
+use Rattle.tables.proofs.LensLaws.{Whole, whole-tables, tables-between}
+use Rattle.tables.proofs.EntryLaws.{Inside, ok-used}
+use Rattle.tables.proofs.Good.{Good, room-ok, check-good}
+use Rattle.tables.proofs.State.{settle-accepted, settle-refused, accepted-good, accepted-image}
+use Rattle.tables.proofs.Changes.{slot-ok}
+
+pub record Pays (B n : ℕ) (t : Tables) (s p m : ℕ) : Type 0 where
+  pub card : check B n t ≡ 0
+  pub slot : s - 1 < 128
+  pub low : B + B + 16384 ≤ payloadPlace B t s p
+  pub start : firstOf (entry (t .front .array) (s - 1)) * B ≤ payloadPlace B t s p
+  pub end : payloadPlace B t s p + m ≤ (lastOf (entry (t .front .array) (s - 1)) + 1) * B
+  pub high : payloadPlace B t s p + m ≤ backArray B n
+
+pub pay-ok : (B n : ℕ) (t : Tables) (s p m : ℕ) → (Room B n → Whole B t) → payloadNumber B n t s p m ≡ 0 → Pays B n t s p m
+unfolding payloadNumber
+pay-ok B n t s p m whole h =
+    let e : List ℕ = entry (t .front .array) (s - 1) in
+    let c : check B n t ≡ 0 = else-first (check B n t) _ h in
+    let h1 = else-second (check B n t) _ h in
+    let c18 : badSlot s ≡ false = none-when _ 18 tt (else-first (when (badSlot s) 18) _ h1) in
+    let h2 = else-second (when (badSlot s) 18) _ h1 in
+    let c23 : not (used (entry (t .front .array) (s - 1))) ≡ false = none-when _ 23 tt (else-first (when (not (used e)) 23) _ h2) in
+    let c24 : ltb ((lastOf (entry (t .front .array) (s - 1)) + 1 - firstOf (entry (t .front .array) (s - 1))) * B) (p + m) ≡ false = none-when _ 24 tt (else-second (when (not (used e)) 23) _ h2) in
+    fits (slot-ok s c18 .1) c (check-good B n t whole c) (ok-used B n _ (check-good B n t whole c .entries .each (s - 1) (slot-ok s c18 .1)) (not-false _ c23)) (ltb-false _ _ c24)
+  where
+    fits : s - 1 < 128 → check B n t ≡ 0 → Good B n (guidOf (t .front)) t → Inside B n (entry (t .front .array) (s - 1))
+        → p + m ≤ (lastOf (entry (t .front .array) (s - 1)) + 1 - firstOf (entry (t .front .array) (s - 1))) * B → Pays B n t s p m
+    fits sl c k i q =
+        let r : Room B n = room-ok B n (k .room) in
+        let f : ℕ = firstOf (entry (t .front .array) (s - 1)) in
+        let d : ℕ = lastOf (entry (t .front .array) (s - 1)) + 1 - firstOf (entry (t .front .array) (s - 1)) in
+        let z : ℕ = lastOf (entry (t .front .array) (s - 1)) + 1 in
+        let a : d + f ≡ z = omega arith in
+        let b : d * B + f * B ≡ z * B = sym (add-mul d f B) ∙ ap (λ (x : ℕ). x * B) a in
+        let u : firstUsable B * B ≤ f * B = mul-le-mul-right B (i .low) in
+        let zl : z ≤ lastUsable B n + 1 = omega (arith, i .high) in
+        let v : z * B ≤ (lastUsable B n + 1) * B = mul-le-mul-right B zl in
+        record { card = c; slot = sl; low = omega arith; start = omega arith; end = omega arith; high = omega arith }
+
+-- and where nothing speaks against it, it is accepted: so is one of no bytes at the partition's end
+pub ok-pay : (B n : ℕ) (t : Tables) (s p m : ℕ) → check B n t ≡ 0 → 1 ≤ s → s ≤ 128 → used (entry (t .front .array) (s - 1)) ≡ true
+    → p + m ≤ (lastOf (entry (t .front .array) (s - 1)) + 1 - firstOf (entry (t .front .array) (s - 1))) * B → payloadNumber B n t s p m ≡ 0
+unfolding payloadNumber
+ok-pay B n t s p m c a b u h =
+    else-none c
+    (else-none (when-none _ 18 (neither (le-ltb s 1 a) (le-ltb 128 s b)))
+    (else-none (when-none _ 23 (ap not u)) (when-none _ 24 (le-ltb _ _ h))))
+
+module _ (B n : ℕ) (xs : List ℕ) (l : length xs ≡ n) (s p : ℕ) (ys : List ℕ) (h : payloadNumber B n (tablesAt B n xs) s p (length ys) ≡ 0) where
+  pays : Pays B n (tablesAt B n xs) s p (length ys)
+  pays = pay-ok B n (tablesAt B n xs) s p (length ys) (λ r. whole-tables B n r xs l) h
+
+  pay-room : Room B n
+  pay-room = room-ok B n (accepted-good B n xs l (pays .card) .room)
+
+  pub pay-fits : payloadPlace B (tablesAt B n xs) s p + length ys ≤ length xs
+  pay-fits = let r = pay-room in let q = pays in omega arith
+
+  pub payload-image : payloadAt B n xs s p ys .image ≡ sets xs (payloadPlace B (tablesAt B n xs) s p) ys
+  unfolding payloadAt
+  payload-image = accepted-image (length ys) _ 0 xs _ h
+
+  -- the tables and the length stay
+  pub payload-tables : tablesAt B n (payloadAt B n xs s p ys .image) ≡ tablesAt B n xs
+  payload-tables = ap (λ (i : List ℕ). tablesAt B n i) payload-image ∙ tables-between B n pay-room xs l _ ys (pays .low) (pays .high)
+
+  pub payload-length : length (payloadAt B n xs s p ys .image) ≡ n
+  payload-length = ap length payload-image ∙ length-sets xs _ ys ∙ l
+
+  -- the bytes are there, and no other byte changes
+  pub payload-there : part (payloadAt B n xs s p ys .image) (payloadPlace B (tablesAt B n xs) s p) (length ys) ≡ ys
+  payload-there = ap (λ (i : List ℕ). part i (payloadPlace B (tablesAt B n xs) s p) (length ys)) payload-image ∙ part-same xs _ ys pay-fits
+
+  pub payload-else : (i : ℕ) → Outside (payloadPlace B (tablesAt B n xs) s p) (length ys) i → getD (payloadAt B n xs s p ys .image) i 0 ≡ getD xs i 0
+  payload-else i o = ap (λ (x : List ℕ). getD x i 0) payload-image ∙ getD-out xs _ ys i o
+
+-- ---- the ways out, for the code's proof
+
+module _ (B n : ℕ) (xs : List ℕ) (s p : ℕ) (ys : List ℕ) where
+  pub payload-stored : (i : List ℕ) → payloadNumber B n (tablesAt B n xs) s p (length ys) ≡ 0 → i ≡ sets xs (payloadPlace B (tablesAt B n xs) s p) ys
+      → Ends (payloadAt B n xs s p ys) (accepted (length ys)) i
+  unfolding payloadAt
+  payload-stored i h q = ends (settle-accepted (length ys) _ 0 xs _ h ∙ ap (λ (x : List ℕ). gives (accepted (length ys)) x) (sym q))
+
+  pub payload-refuses : (payloadNumber B n (tablesAt B n xs) s p (length ys) ≡ 0 → ⊥)
+      → Ends (payloadAt B n xs s p ys) (refused (record { number = payloadNumber B n (tablesAt B n xs) s p (length ys); slot = 0 })) xs
+  unfolding payloadAt
+  payload-refuses h = ends (settle-refused (length ys) _ 0 xs _ h)

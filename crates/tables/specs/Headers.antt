@@ -1,0 +1,106 @@
+-- The headers of a card as lay writes them, byte by byte, and the tables that they make with an array. That these are the headers that the builder gives,
+-- stored by the header's own format, is shown in proofs/Builder. From document 01, "The card calls". Assumes nothing.
+use mathlib.Core.Bool.{Bool, true, false, _&&_}
+use mathlib.Core.List.{List, _++_}
+use Prim.Native.Nat.{ℕ, _+_, _-_}
+use lib.Dec.{eqb}
+use Rattle.units.specs.declared.Guid.{Guid}
+use Rattle.units.specs.Bytes.{bytes}
+use Rattle.crc32.specs.Crc.{crc}
+use Rattle.header.specs.declared.Header.{Header}
+use Rattle.header.specs.Format.{signature}
+use Rattle.header.specs.Writing.{withSums, headerBlock}
+use Rattle.tables.specs.Places.{blocks, firstUsable, lastUsable, backHeader}
+use Rattle.tables.specs.Lens.{Copy, Tables}
+use Rattle.tables.specs.Entries.{zeros}
+
+pub data Side : Type 0 where
+  Front Back : Side
+
+-- the code's word for a side
+abbrev pub sideOf : Bool → Side
+sideOf false = Front
+sideOf true = Back
+
+-- the byte place of a header's block
+abbrev pub headerPlace : ℕ → ℕ → Side → ℕ
+headerPlace B n Front = B
+headerPlace B n Back = backHeader B n
+
+-- current, backup and array start
+abbrev pub ownBlock : ℕ → ℕ → Side → ℕ
+ownBlock B n Front = 1
+ownBlock B n Back = blocks B n - 1
+
+abbrev pub otherBlock : ℕ → ℕ → Side → ℕ
+otherBlock B n Front = blocks B n - 1
+otherBlock B n Back = 1
+
+abbrev pub arrayStart : ℕ → ℕ → Side → ℕ
+arrayStart B n Front = 2
+arrayStart B n Back = lastUsable B n + 1
+
+-- bytes 8 to 15: revision 1.0, header size 92
+unfoldable pub kind : List ℕ
+kind = bytes 2 0 ++ (bytes 2 1 ++ bytes 4 92)
+
+-- bytes 20 to 55: reserved, current, backup, first and last usable
+unfoldable pub ground : ℕ → ℕ → Side → List ℕ
+ground B n s = bytes 4 0 ++ (bytes 8 (ownBlock B n s) ++ (bytes 8 (otherBlock B n s) ++ (bytes 8 (firstUsable B) ++ bytes 8 (lastUsable B n))))
+
+-- bytes 72 to 87: array start, entry count, entry size
+unfoldable pub shape : ℕ → ℕ → Side → List ℕ
+shape B n s = bytes 8 (arrayStart B n s) ++ (bytes 4 128 ++ bytes 4 128)
+
+-- the 92 bytes, from the check sum's four, the GUID's sixteen and the array sum's four
+unfoldable pub header : ℕ → ℕ → Side → List ℕ → List ℕ → List ℕ → List ℕ
+header B n s sum g parts = signature ++ (kind ++ (sum ++ (ground B n s ++ (g ++ (shape B n s ++ parts)))))
+
+-- with both sums
+unfoldable pub sealed : ℕ → ℕ → Side → List ℕ → List ℕ → List ℕ
+sealed B n s g arr = header B n s (bytes 4 (crc (header B n s (zeros 4) g (bytes 4 (crc arr))))) g (bytes 4 (crc arr))
+
+-- the tables that lay would write for a GUID's sixteen bytes and an array
+unfoldable pub copyOf : ℕ → ℕ → Side → List ℕ → List ℕ → Copy
+copyOf B n s g arr = record { header = sealed B n s g arr ++ zeros (B - 92); array = arr }
+
+abbrev pub cardOf : ℕ → ℕ → List ℕ → List ℕ → Tables
+cardOf B n g arr = record { front = copyOf B n Front g arr; back = copyOf B n Back g arr }
+
+-- the same header by its fields, before it has its sums
+abbrev pub cardHeader : ℕ → ℕ → Side → Guid → Header
+cardHeader B n s g =
+    record {
+      revision = record { 0 = 1; 1 = 0 };
+      «header_size_le» = 92;
+      crc32 = 0;
+      reserved = 0;
+      «current_lba» = record { 0 = ownBlock B n s };
+      «backup_lba» = record { 0 = otherBlock B n s };
+      «first_usable» = record { 0 = firstUsable B };
+      «last_usable» = record { 0 = lastUsable B n };
+      «disk_guid» = g;
+      «part_start» = record { 0 = arrayStart B n s };
+      «num_parts» = 128;
+      «part_size» = 128;
+      «crc32_parts» = 0;
+    }
+
+-- the block that stores it, once the array's sum is known: `copyOf` has the same block for each array of that sum
+unfoldable pub headBlock : ℕ → ℕ → Side → Guid → ℕ → List ℕ
+headBlock B n s g parts = headerBlock (withSums (cardHeader B n s g) parts) B
+
+-- a header has these fields, whatever its GUID and its sums are: what 16 tests of a header
+unfoldable pub laidFields : ℕ → ℕ → Side → Header → Bool
+laidFields B n s h =
+    eqb (h .revision .1) 0
+    && (eqb (h .revision .0) 1
+    && (eqb (h .«header_size_le») 92
+    && (eqb (h .reserved) 0
+    && (eqb (h .«current_lba» .0) (ownBlock B n s)
+    && (eqb (h .«backup_lba» .0) (otherBlock B n s)
+    && (eqb (h .«first_usable» .0) (firstUsable B)
+    && (eqb (h .«last_usable» .0) (lastUsable B n)
+    && (eqb (h .«part_start» .0) (arrayStart B n s)
+    && (eqb (h .«num_parts») 128
+    && eqb (h .«part_size») 128)))))))))

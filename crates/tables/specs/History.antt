@@ -1,0 +1,158 @@
+-- A list of calls after a lay, accepted and refused among them, and what it tells of every slot and every byte. What the card then is: `Card`.
+-- From document 01, "The card calls" and "How much a contract has to say". Assumes nothing.
+use mathlib.Core.Path.{_≡_}
+use mathlib.Core.Logic.{_⊎_}
+use mathlib.Core.Bool.{Bool, true, false, _&&_}
+use mathlib.Core.List.{List, [], _∷_}
+use Prim.Native.Nat.{ℕ, zero, suc, _+_, _*_, _-_, _≤_, _<_}
+use lib.Dec.{eqb, leb, ltb}
+use lib.ListN.{length, getD}
+use Rattle.units.specs.declared.Guid.{Guid}
+use Rattle.units.specs.Answer.{Answer, accepted, refused, pick, Outcome}
+use Rattle.units.specs.Guids.{tailBytes}
+use Rattle.units.proofs.Laws.{Small}
+use Rattle.units.proofs.GuidLaws.{FitGuid}
+use Rattle.header.specs.declared.Header.{Header}
+use Rattle.header.specs.Reading.{primaryRead, backupRead}
+use Rattle.partition.specs.declared.Partition.{Partition}
+use Rattle.partition.specs.Format.{named, zeroPartition}
+use Rattle.partition.specs.Array.{Found, arrayFound, partitionRead}
+use Rattle.partition.proofs.Laws.{FitEntry}
+use Rattle.tables.specs.Places.{firstUsable, lastUsable, backArray}
+use Rattle.tables.specs.Lens.{tablesAt, Beside}
+use Rattle.tables.specs.Listing.{Listed, entriesAnswer}
+use Rattle.tables.specs.Calls.{payloadPlace, putBytes, checkAnswer, putAt, clearAt, payloadAt}
+
+-- ---- calls
+
+-- a GUID and a record as the code can hold them: each number fits its field, and a name has 36 units
+pub record GuidHeld (g : Guid) : Type 0 where
+  pub fields : FitGuid g
+  pub tail : Small (tailBytes (g .tail))
+
+pub record PartitionHeld (p : Partition) : Type 0 where
+  pub fields : FitEntry p
+  pub type : GuidHeld (p .«part_type_guid»)
+  pub guid : GuidHeld (p .«part_guid»)
+
+-- a call as a value, with whatever arguments
+pub data Op : Type 0 where
+  put : (s : ℕ) (p : Partition) → PartitionHeld p → Op
+  clear : (s : ℕ) → Op
+  payload : (s p : ℕ) (ys : List ℕ) → Op
+
+-- whether a call was accepted, and the image that it left
+pub record Done : Type 0 where
+  pub taken : Bool
+  pub image : List ℕ
+
+abbrev pub taken : {A : Type 0} → Answer A → Bool
+taken (accepted v) = true
+taken (refused w) = false
+
+abbrev pub done : {A : Type 0} → Outcome (Answer A) → Done
+done o = record { taken = taken (o .answer); image = o .image }
+
+-- in an image of n bytes
+abbrev pub doneAt : ℕ → ℕ → Op → List ℕ → Done
+doneAt B n (put s p _) xs = done (putAt B n xs s (putBytes p))
+doneAt B n (clear s) xs = done (clearAt B n xs s)
+doneAt B n (payload s p ys) xs = done (payloadAt B n xs s p ys)
+
+abbrev pub call : ℕ → Op → List ℕ → Done
+call B o xs = doneAt B (length xs) o xs
+
+-- the image after a list of calls
+unfoldable pub run : ℕ → List Op → List ℕ → List ℕ
+run B [] xs = xs
+run B (o ∷ os) xs = run B os (call B o xs .image)
+
+-- ---- what is told of a slot: the last accepted put or clear of it
+
+abbrev pub emptySlot : Found
+emptySlot = record { present = false; partition = zeroPartition }
+
+abbrev pub filledSlot : Partition → Found
+filledSlot p = record { present = true; partition = named p }
+
+-- what a call makes of slot k, which held x
+abbrev pub after : Bool → Op → ℕ → Found → Found
+after true (put s p _) k x = pick (eqb k s) (filledSlot p) x
+after true (clear s) k x = pick (eqb k s) emptySlot x
+after true (payload s p ys) k x = x
+after false o k x = x
+
+unfoldable pub told : ℕ → List Op → List ℕ → ℕ → Found → Found
+told B [] xs k x = x
+told B (o ∷ os) xs k x = told B os (call B o xs .image) k (after (call B o xs .taken) o k x)
+
+-- the filled slots of n from slot k + 1 on, ascending, each with its record
+unfoldable pub filledFrom : (ℕ → Found) → ℕ → ℕ → List Listed
+filledFrom slots k zero = []
+filledFrom slots k (suc n) =
+    pick (slots (k + 1) .present)
+    (record { slot = k + 1; partition = slots (k + 1) .partition } ∷ filledFrom slots (k + 1) n)
+    (filledFrom slots (k + 1) n)
+
+-- ---- what is told of a byte beside the tables: the last accepted payload write over it
+
+unfoldable pub covers : ℕ → ℕ → ℕ → Bool
+covers at m i = leb at i && ltb i (at + m)
+
+-- what a call makes of byte i, which was x
+abbrev pub afterByte : ℕ → ℕ → Bool → Op → List ℕ → ℕ → ℕ → ℕ
+afterByte B n true (put s p _) xs i x = x
+afterByte B n true (clear s) xs i x = x
+afterByte B n true (payload s p ys) xs i x =
+    pick (covers (payloadPlace B (tablesAt B n xs) s p) (length ys) i) (getD ys (i - payloadPlace B (tablesAt B n xs) s p) 0) x
+afterByte B n false o xs i x = x
+
+unfoldable pub toldByte : ℕ → List Op → List ℕ → ℕ → ℕ → ℕ
+toldByte B [] xs i x = x
+toldByte B (o ∷ os) xs i x = toldByte B os (call B o xs .image) i (afterByte B (length xs) (call B o xs .taken) o xs i x)
+
+-- ---- a card, by the readers of the format
+
+-- a header that was read has the GUID, its array is found with its check sum right, and each of 128 slots reads as told
+pub record Reads (B : ℕ) (g : Guid) (slots : ℕ → Found) (xs : List ℕ) (answer : Answer Header) : Type 0 where
+  pub header : Header
+  pub read : answer ≡ accepted header
+  pub guid : header .«disk_guid» ≡ g
+  pub count : header .«num_parts» ≡ 128
+  pub array : ℕ
+  pub found : arrayFound xs header B ≡ accepted (record { 0 = array })
+  pub each : (s : ℕ) → 1 ≤ s → s ≤ 128 → partitionRead xs header B s ≡ accepted (slots s)
+
+-- the blocks of a record are usable ones
+pub record Within (B n : ℕ) (p : Partition) : Type 0 where
+  pub order : p .«first_lba» .0 ≤ p .«last_lba» .0
+  pub low : firstUsable B ≤ p .«first_lba» .0
+  pub high : p .«last_lba» .0 ≤ lastUsable B n
+
+-- two records share no block
+abbrev pub Apart : Partition → Partition → Type 0
+Apart p q = (p .«last_lba» .0 < q .«first_lba» .0) ⊎ (q .«last_lba» .0 < p .«first_lba» .0)
+
+pub record Card (B : ℕ) (g : Guid) (slots : ℕ → Found) (xs : List ℕ) : Type 0 where
+  -- the check accepts, the listing gives the filled slots, and both tables read as told
+  pub check : checkAnswer B xs ≡ accepted tt
+  pub listing : entriesAnswer B xs ≡ accepted (filledFrom slots 0 128)
+  pub primary : Reads B g slots xs (primaryRead xs B)
+  pub backup : Reads B g slots xs (backupRead xs B)
+  -- the usable blocks lie after block 0 and the front table, and before the back table
+  pub ground : B + B + 16384 ≤ firstUsable B * B
+  pub roof : (lastUsable B (length xs) + 1) * B ≤ backArray B (length xs)
+  -- partitions lie in them, and no two share a block
+  pub within : (s : ℕ) → 1 ≤ s → s ≤ 128 → slots s .present ≡ true → Within B (length xs) (slots s .partition)
+  pub apart : (s t : ℕ) → 1 ≤ s → s ≤ 128 → 1 ≤ t → t ≤ 128 → (s ≡ t → ⊥) → slots s .present ≡ true → slots t .present ≡ true
+      → Apart (slots s .partition) (slots t .partition)
+
+-- ---- after any calls on an image that was laid with a GUID: demand 3
+
+pub record Told (B : ℕ) (g : Guid) (os : List Op) (laid : List ℕ) : Type 0 where
+  -- the image keeps its length
+  pub size : length (run B os laid) ≡ length laid
+  -- it is a card whose slots hold what the last accepted put or clear of each gave; a slot with none is empty
+  pub card : Card B g (λ (s : ℕ). told B os laid s emptySlot) (run B os laid)
+  -- a byte in neither table is what the last accepted payload write over it gave; with none it is as it was
+  pub bytes : (i : ℕ) → Beside B (length laid) i → getD (run B os laid) i 0 ≡ toldByte B os laid i (getD laid i 0)

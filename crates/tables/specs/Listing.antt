@@ -1,0 +1,49 @@
+-- The listing of a card: its present entries, ascending by slot, after the card check. From document 01, "Listing": the card check, then 15.
+-- The row that is lent comes with its own form; here are the count, the entries one by one, and the answer for a row of m records. Assumes nothing.
+use mathlib.Core.List.{List, map}
+use Prim.Native.Nat.{ℕ, _-_}
+use lib.Dec.{ltb}
+use lib.ListN.{length, take, drop}
+use Rattle.units.specs.Answer.{Answer}
+use Rattle.partition.specs.declared.Partition.{Partition}
+use Rattle.partition.specs.Format.{entryAt}
+use Rattle.partition.specs.Array.{entryPlace, presentFrom}
+use Rattle.tables.specs.Checks.{when, orElse}
+use Rattle.tables.specs.Lens.{Tables, tables}
+use Rattle.tables.specs.Check.{check}
+use Rattle.tables.specs.Calls.{judged}
+
+-- the slots of the present entries, ascending
+unfoldable pub presentSlots : Tables → List ℕ
+presentSlots t = presentFrom (t .front .array) 0 0 128
+
+-- an entry with its slot
+pub record Listed : Type 0 where
+  pub slot : ℕ
+  pub partition : Partition
+
+abbrev pub listed : Tables → ℕ → Listed
+listed t s = record { slot = s; partition = entryAt (t .front .array) (entryPlace 0 (s - 1)) }
+
+-- how many entries are present
+abbrev pub countAnswer : ℕ → List ℕ → Answer ℕ
+countAnswer B xs = judged (check B (length xs) (tables B xs)) 0 (length (presentSlots (tables B xs)))
+
+-- the slot of present entry k, counted from 0, alone in a list; no slot where k is not below the count
+abbrev pub slotAnswer : ℕ → List ℕ → ℕ → Answer (List ℕ)
+slotAnswer B xs k = judged (check B (length xs) (tables B xs)) 0 (take 1 (drop k (presentSlots (tables B xs))))
+
+-- the same with its record
+abbrev pub nthAnswer : ℕ → List ℕ → ℕ → Answer (List Listed)
+nthAnswer B xs k = judged (check B (length xs) (tables B xs)) 0 (map (listed (tables B xs)) (take 1 (drop k (presentSlots (tables B xs)))))
+
+-- all of them
+abbrev pub entriesAnswer : ℕ → List ℕ → Answer (List Listed)
+entriesAnswer B xs = judged (check B (length xs) (tables B xs)) 0 (map (listed (tables B xs)) (presentSlots (tables B xs)))
+
+-- the count, for a lent row of m records: 15 if more entries are present
+unfoldable pub listingNumber : ℕ → ℕ → Tables → ℕ → ℕ
+listingNumber B n t m = orElse (check B n t) (when (ltb m (length (presentSlots t))) 15)
+
+abbrev pub listingAnswer : ℕ → List ℕ → ℕ → Answer ℕ
+listingAnswer B xs m = judged (listingNumber B (length xs) (tables B xs) m) 0 (length (presentSlots (tables B xs)))
