@@ -37,7 +37,7 @@ use Rattle.tables.proofs.Changes.{slot-ok}
 use Rattle.tables.proofs.Stores.{sets-within, newHeader, change-stored}
 use Rattle.tables.proofs.LayWays.{head-block, settled}
 use Rattle.tables.proofs.ReadCheck.{guid-part-of}
-use Rattle.checking.proofs.CheckWays.{else-here, else-on, else-most, when-most, check-most}
+use Rattle.tables.proofs.NumberWays.{else-here, else-on, else-most, when-most, check-most}
 
 -- ---- the number of clear
 
@@ -213,8 +213,8 @@ front-kept B xs h b e =
     ∙ sym (guid-part-of xs B B (omega (arith, r .least)))
 
 -- the entry in both arrays
-pub slots-stored : (e xs m i : List ℕ) (a o : ℕ) {b k : ℕ} → m ≡ sets xs a e → b ≡ k → i ≡ sets m (b + o) e → i ≡ sets (sets xs a e) (k + o) e
-slots-stored e xs m i a o p q h = rw (h, p, q)
+pub slots-stored : (e xs : List ℕ) {m i : List ℕ} {a b k o : ℕ} → m ≡ sets xs a e → a ≡ k → i ≡ sets m b e → b ≡ o → i ≡ sets (sets xs k e) o e
+slots-stored e xs p q h r = rw (h, p, q, r)
 
 -- a part that a store changed within
 part-within : (xs : List ℕ) (at n o : ℕ) (e : List ℕ) → at + n ≤ length xs → o + length e ≤ n → part (sets xs (at + o) e) at n ≡ sets (part xs at n) o e

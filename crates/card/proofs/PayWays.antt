@@ -16,7 +16,7 @@ use Rattle.tables.specs.Checks.{when, orElse}
 use Rattle.tables.specs.Places.{lastUsable}
 use Rattle.tables.specs.Lens.{Tables, tablesAt, tables}
 use Rattle.tables.specs.Entries.{entry, used, firstOf, lastOf}
-use Rattle.tables.specs.Check.{check}
+use Rattle.tables.specs.Check.{roomCheck, check}
 use Rattle.tables.specs.Calls.{judged, badSlot, clearNumber, payloadNumber, payloadPlace, payloadAt}
 use Rattle.tables.proofs.Orders.{else-first}
 use Rattle.tables.proofs.Room.{Room}
@@ -26,7 +26,8 @@ use Rattle.tables.proofs.State.{judged-zero, accepted-good}
 use Rattle.tables.proofs.Changes.{slot-ok}
 use Rattle.tables.proofs.Payload.{pay-fits}
 use Rattle.tables.proofs.LayWays.{settled}
-use Rattle.checking.proofs.CheckWays.{else-here, else-on, else-most, when-most, own-used, own-first, own-last}
+use Rattle.tables.proofs.NumberWays.{else-here, else-on, else-most, when-most}
+use Rattle.checking.proofs.CheckWays.{own-used, own-first, own-last}
 use Rattle.card.proofs.ChangeWays.{here, on, else-assoc, clear-fine, clear-most}
 
 -- ---- the number
@@ -63,10 +64,9 @@ module _ (B n : ℕ) (t : Tables) (s p m : ℕ) where
 
 -- the entry of a slot, where the check and the slot are in order
 pub record Site (B n s : ℕ) : Type 0 where
-  pub room : Room B n
-  pub one : 1 ≤ s
+  pub room : roomCheck B n ≡ 0
   pub slot : s - 1 < 128
-  pub fits : B + B + 128 * (s - 1) + 128 ≤ n
+  pub ok : badSlot s ≡ false
 
 -- the partition of a used entry: its blocks, and its bytes, which the image has
 pub record Span (B n f l : ℕ) : Type 0 where
@@ -78,32 +78,32 @@ module _ (B : ℕ) (xs : List ℕ) (s : ℕ) where
   pub pay-site : clearNumber B (length xs) (tables B xs) s ≡ 0 → Site B (length xs) s
   pay-site c =
       let k = clear-fine B (length xs) (tables B xs) s c in
-      let r : Room B (length xs) = room-ok B (length xs) (accepted-good B (length xs) xs refl (k .0) .room) in
       let o = slot-ok s (k .1) in
-      record { room = r; one = o .0; slot = o .1; fits = omega (arith, o .1, r .low, r .seam, r .top) }
+      record { room = accepted-good B (length xs) xs refl (k .0) .room; slot = o .1; ok = k .1 }
 
-  module _ {k : ℕ} (h : k ≡ clearNumber B (length xs) (tables B xs) s) (o : k ≡ 0) {z : Bool} (kz : z ≡ allZero (part xs (B + B + 128 * (s - 1)) 16)) where
+  module _ {k : ℕ} (h : k ≡ clearNumber B (length xs) (tables B xs) s) (o : k ≡ 0) {at : ℕ} (ka : at ≡ B + B + 128 * (s - 1))
+      {z : Bool} (kz : z ≡ allZero (part xs at 16)) where
     is-used : used (entry (tables B xs .front .array) (s - 1)) ≡ not z
     unfolding tablesAt
-    is-used = own-used xs (B + B) (s - 1) (pay-site (sym h ∙ o) .slot) kz
+    is-used = own-used xs (B + B) (s - 1) (pay-site (sym h ∙ o) .slot) (kz ∙ ap (λ (i : ℕ). allZero (part xs i 16)) ka)
 
     pub pay-23 : (p m : ℕ) → z ≡ true → 23 ≡ payloadNumber B (length xs) (tables B xs) s p m
     unfolding siteCheck
     pay-23 p m q = site B (length xs) (tables B xs) s p m h o (here 22 _ (ap not (is-used ∙ ap not q)))
 
-    module _ (qz : z ≡ false) {f l : ℕ} (kf : f ≡ num xs (B + B + 128 * (s - 1) + 32) 8) (kl : l ≡ num xs (B + B + 128 * (s - 1) + 40) 8) where
+    module _ (qz : z ≡ false) {f l : ℕ} (kf : f ≡ num xs (at + 32) 8) (kl : l ≡ num xs (at + 40) 8) where
       is-first : f ≡ firstOf (entry (tables B xs .front .array) (s - 1))
       unfolding tablesAt
-      is-first = own-first xs (B + B) (s - 1) (pay-site (sym h ∙ o) .slot) kf
+      is-first = own-first xs (B + B) (s - 1) (pay-site (sym h ∙ o) .slot) (kf ∙ ap (λ (i : ℕ). num xs (i + 32) 8) ka)
 
       is-last : l ≡ lastOf (entry (tables B xs .front .array) (s - 1))
       unfolding tablesAt
-      is-last = own-last xs (B + B) (s - 1) (pay-site (sym h ∙ o) .slot) kl
+      is-last = own-last xs (B + B) (s - 1) (pay-site (sym h ∙ o) .slot) (kl ∙ ap (λ (i : ℕ). num xs (i + 40) 8) ka)
 
       pub pay-span : Span B (length xs) f l
       pay-span =
           let t = pay-site (sym h ∙ o) in
-          let r = t .room in
+          let r : Room B (length xs) = room-ok B (length xs) (t .room) in
           let g = accepted-good B (length xs) xs refl (clear-fine B (length xs) (tables B xs) s (sym h ∙ o) .0) in
           let i : Inside B (length xs) (entry (tables B xs .front .array) (s - 1)) = ok-used B (length xs) _ (g .entries .each (s - 1) (t .slot)) (is-used ∙ ap not qz) in
           let a : l + 1 ≤ lastUsable B (length xs) + 1 = omega (arith, i .high, is-last) in
@@ -135,10 +135,10 @@ module _ (B : ℕ) (xs : List ℕ) (s p : ℕ) (ys : List ℕ) (h : payloadNumbe
   pub pay-place : Site B (length xs) s
   pay-place = pay-site B xs s (pay-clear B (length xs) (tables B xs) s p (length ys) h)
 
-  module _ {f : ℕ} (kf : f ≡ num xs (B + B + 128 * (s - 1) + 32) 8) where
+  module _ {at f : ℕ} (ka : at ≡ B + B + 128 * (s - 1)) (kf : f ≡ num xs (at + 32) 8) where
     pub place-is : f * B + p ≡ payloadPlace B (tables B xs) s p
     unfolding tablesAt
-    place-is = ap (λ (i : ℕ). i * B + p) (own-first xs (B + B) (s - 1) (pay-place .slot) kf)
+    place-is = ap (λ (i : ℕ). i * B + p) (own-first xs (B + B) (s - 1) (pay-place .slot) (kf ∙ ap (λ (i : ℕ). num xs (i + 32) 8) ka))
 
     pub pay-inside : f * B + p + length ys ≤ length xs
     pay-inside = omega (arith, place-is, pay-fits B (length xs) xs refl s p ys h)

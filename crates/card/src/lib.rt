@@ -1,6 +1,5 @@
-// The card: both tables laid, checked, changed and listed together, and payload written inside a partition. What each call promises is in specs/.
-// Here stand the public calls: each takes every image and every number. `inner` has the leaves for our own crates.
-
+// The card: both tables laid, checked, changed and listed together, and payload written inside a partition. What each call promises is in tables/specs.
+// Here stand the public calls: each takes every image and every number.
 mod changing; // changing.rt: what put and clear test and store
 mod laying; // laying.rt: what lay stores
 mod paying; // paying.rt: what a payload write tests and stores
@@ -20,7 +19,7 @@ ghost use Rattle.tables.specs.Calls.{layOutcome, putOutcome, clearOutcome, payl
 pub fn lay(img: &mut [u8], b: u64, guid: Guid) -> Verdict
     ensures { λ r. ⌜ Ends (layOutcome b (now (img .entry)) guid) (verdictMeans r) (now (img .exit)) ⌝ }
 {
-    match tables::inner::room(img.len(), b) {
+    match tables::inner::verdict_of(tables::inner::room_number(img.len(), b)) {
         Verdict::Refused(w) => Verdict::Refused(w),
         Verdict::Accepted => {
             laying::lay_card(img, b, guid);
@@ -34,10 +33,10 @@ pub fn put(img: &mut [u8], b: u64, slot: Slot, p: Partition) -> Verdict
     ensures { λ r. ⌜ Ends (putOutcome b (now (img .entry)) (slot .0) p) (verdictMeans r) (now (img .exit)) ⌝ }
 {
     let e = changing::record_bytes(p);
-    match changing::put_test(img, b, slot.0, &e) {
+    match changing::put_test(img, b, slot, &e) {
         Verdict::Refused(w) => Verdict::Refused(w),
         Verdict::Accepted => {
-            changing::change(img, b, slot.0, &e);
+            changing::change(img, b, slot, &e);
             Verdict::Accepted
         }
     }
@@ -47,12 +46,12 @@ pub fn put(img: &mut [u8], b: u64, slot: Slot, p: Partition) -> Verdict
 pub fn clear(img: &mut [u8], b: u64, slot: Slot) -> Verdict
     ensures { λ r. ⌜ Ends (clearOutcome b (now (img .entry)) (slot .0)) (verdictMeans r) (now (img .exit)) ⌝ }
 {
-    let found = changing::clear_number(img, b, slot.0);
+    let found = changing::clear_number(img, b, slot);
     if found != 0 {
-        return checking::inner::verdict_of(found);
+        return tables::inner::verdict_of(found);
     }
     let e = [0u8; 128];
-    changing::change(img, b, slot.0, &e);
+    changing::change(img, b, slot, &e);
     Verdict::Accepted
 }
 
@@ -61,11 +60,11 @@ pub fn write_payload(img: &mut [u8], b: u64, slot: Slot, place: BytePlace, bytes
     ensures { λ r. ⌜ Ends (payloadOutcome b (now (img .entry)) (slot .0) (place .0) (now (bytes .entry))) (storedMeans r) (now (img .exit)) ⌝ }
 {
     let n = bytes.len();
-    let found = paying::payload_number(img, b, slot.0, place.0, n);
-    match checking::inner::verdict_of(found) {
+    let found = paying::payload_number(img, b, slot, place, n);
+    match tables::inner::verdict_of(found) {
         Verdict::Refused(w) => Stored::Refused(w),
         Verdict::Accepted => {
-            paying::pay(img, b, slot.0, place.0, bytes);
+            paying::pay(img, b, slot, place, bytes);
             Stored::Bytes(n)
         }
     }

@@ -25,40 +25,12 @@ use Rattle.tables.specs.Entries.{zeros, entry, used, firstOf, lastOf, usable, o
 use Rattle.tables.specs.Headers.{Side, Front, Back, header, laidFields}
 use Rattle.tables.specs.Check.{roomCheck, copyCheck, headOf, guidOf, check}
 use Rattle.tables.specs.Calls.{judged}
-use Rattle.tables.proofs.Orders.{split, by-test, else-skip, else-take, all-at, all-of}
+use Rattle.tables.proofs.NumberWays.{else-here, else-on}
+use Rattle.tables.proofs.Orders.{split, by-test, all-at, all-of}
 use Rattle.tables.proofs.EntryLaws.{clash-comm, zero-front}
 use Rattle.tables.proofs.Good.{room-ok}
 use Rattle.tables.proofs.Bridge.{narrow}
 use Rattle.tables.proofs.ReadCheck.{readCheck, copy-read, head-part}
-
--- ---- 1, 8, 10
-
-module _ {r : Bool} (B n : ℕ) (e : r ≡ goodSize B) where
-  pub room-size : not r ≡ true → 1 ≡ roomCheck B n
-  unfolding roomCheck
-  room-size t = rw (← e, t)
-
-  module _ (g : not r ≡ false) where
-    pub room-short : n < 3 * B → 8 ≡ roomCheck B n
-    unfolding roomCheck
-    room-short h = rw (← e, g, lt-ltb _ _ h)
-
-    module _ (l : 3 * B ≤ n) where
-      pub room-close : n / B - 1 < 2 * (16384 / B) + 3 → 10 ≡ roomCheck B n
-      unfolding roomCheck
-      room-close h = rw (← e, g, le-ltb _ _ l, lt-ltb _ _ h)
-
-      pub room-some : 2 * (16384 / B) + 3 ≤ n / B - 1 → 0 ≡ roomCheck B n
-      unfolding roomCheck
-      room-some h = rw (← e, g, le-ltb _ _ l, le-ltb _ _ h)
-
-      -- the blocks are counted before it is known that there are many
-      pub some-blocks : 3 ≤ n / B
-      some-blocks = by-size (good-size B (sym e ∙ not-false r g)) l
-        where
-          by-size : (B ≡ 512) ⊎ (B ≡ 4096) → 3 * B ≤ n → 3 ≤ n / B
-          by-size (inl q) = subst (λ (b : ℕ). 3 * b ≤ n → 3 ≤ n / b) (sym q) (λ h. omega arith)
-          by-size (inr q) = subst (λ (b : ℕ). 3 * b ≤ n → 3 ≤ n / b) (sym q) (λ h. omega arith)
 
 -- ---- the parts that the code reads
 
@@ -243,113 +215,63 @@ entries-right e t = rw (← e, t)
 
 -- ---- the order of the parts
 
--- a number that is not 0 is the answer; after 0 the next part gives it
-pub else-here : {f a : ℕ} (m : ℕ) → f ≡ a → (f ≡ 0 → ⊥) → f ≡ orElse a m
-else-here {f} {a} m e d = e ∙ sym (else-take a m (λ z. d (e ∙ z)))
-
-pub else-on : {f a r m : ℕ} → f ≡ a → f ≡ 0 → r ≡ m → r ≡ orElse a m
-else-on {f} {a} {r} {m} e z q = q ∙ sym (else-skip a m (sym e ∙ z))
-
-pub check-room : (B n : ℕ) (t : Tables) {f : ℕ} → f ≡ roomCheck B n → (f ≡ 0 → ⊥) → f ≡ check B n t
-unfolding check
-check-room B n t e d = else-here _ e d
-
--- the parts that the check reads are in the image
-pub record Reach (B n back : ℕ) : Type 0 where
+-- the four places that the check reads at: the headers' and the arrays', in front and at the back
+pub record Reach (B n f a k o : ℕ) : Type 0 where
   pub least : 512 ≤ B
-  pub front : B + B + 16384 ≤ n
-  pub rear : back + 16384 + B ≤ n
+  pub front : f + 92 ≤ n
+  pub array : a + 16384 ≤ n
+  pub back : k + 92 ≤ n
+  pub other : o + 16384 ≤ n
 
-pub reach : (B n back : ℕ) → roomCheck B n ≡ 0 → back ≡ backArray B n → Reach B n back
-reach B n back h e =
+-- each is where the definitions have it
+pub record Where (B n f a k o : ℕ) : Type 0 where
+  pub front : f ≡ B
+  pub array : a ≡ B + B
+  pub back : k ≡ backHeader B n
+  pub other : o ≡ backArray B n
+
+pub reach : (B n f a k o : ℕ) → roomCheck B n ≡ 0 → Where B n f a k o → Reach B n f a k o
+reach B n f a k o h w =
     let r = room-ok B n h in
-    let l = r .low in
-    let s = r .seam in
-    let t = r .top in
-    record { least = r .least; front = omega arith; rear = omega arith }
+    record {
+      least = r .least;
+      front = omega (arith, w .front, r .least, r .enough);
+      array = omega (arith, w .array, r .low, r .seam, r .top);
+      back = omega (arith, w .back, r .least, r .top);
+      other = omega (arith, w .other, r .seam, r .top);
+    }
 
--- what the check of an image with room is, in those parts
-unfoldable pub partsCheck : ℕ → List ℕ → ℕ → ℕ
-partsCheck B xs back =
-    orElse (copyCheck B (length xs) Front (part xs B 92) (part xs (B + B) 16384))
-    (orElse (copyCheck B (length xs) Back (part xs (back + 16384) 92) (part xs back 16384))
-    (orElse (when (not (same (part xs (B + 56) 16) (part xs (back + 16384 + 56) 16) && same (part xs (B + B) 16384) (part xs back 16384))) 17)
-    (when (not (entriesOk B (length xs) (part xs (B + B) 16384))) 16)))
+-- what the check of an image with room is, at those places
+unfoldable pub partsCheck : ℕ → List ℕ → ℕ → ℕ → ℕ → ℕ → ℕ
+partsCheck B xs f a k o =
+    orElse (copyCheck B (length xs) Front (part xs f 92) (part xs a 16384))
+    (orElse (copyCheck B (length xs) Back (part xs k 92) (part xs o 16384))
+    (orElse (when (not (same (part xs (f + 56) 16) (part xs (k + 56) 16) && same (part xs a 16384) (part xs o 16384))) 17)
+    (when (not (entriesOk B (length xs) (part xs a 16384))) 16)))
 
-pub parts-check : (B : ℕ) (xs : List ℕ) (back : ℕ) → roomCheck B (length xs) ≡ 0 → back ≡ backArray B (length xs)
-    → partsCheck B xs back ≡ check B (length xs) (tables B xs)
+pub parts-check : (B : ℕ) (xs : List ℕ) (f a k o : ℕ) → roomCheck B (length xs) ≡ 0 → Where B (length xs) f a k o
+    → partsCheck B xs f a k o ≡ check B (length xs) (tables B xs)
 unfolding check guidOf tablesAt partsCheck
-parts-check B xs back h e =
+parts-check B xs f a k o h w =
     let r = room-ok B (length xs) h in
-    let s : backHeader B (length xs) ≡ back + 16384 = sym (r .seam) ∙ ap (λ (k : ℕ). k + 16384) (sym e) in
-    let f : take 92 (part xs B B) ≡ part xs B 92 = head-part xs B B (omega (arith, r .least)) in
-    let k : take 92 (part xs (back + 16384) B) ≡ part xs (back + 16384) 92 = head-part xs (back + 16384) B (omega (arith, r .least)) in
+    let x : take 92 (part xs B B) ≡ part xs B 92 = head-part xs B B (omega (arith, r .least)) in
+    let y : take 92 (part xs (backHeader B (length xs)) B) ≡ part xs (backHeader B (length xs)) 92 = head-part xs (backHeader B (length xs)) B (omega (arith, r .least)) in
     let g : part (part xs B 92) 56 16 ≡ part xs (B + 56) 16 = part-part xs B 92 56 16 (omega arith) in
-    let d : part (part xs (back + 16384) 92) 56 16 ≡ part xs (back + 16384 + 56) 16 = part-part xs (back + 16384) 92 56 16 (omega arith) in
-    rw (h, ← e, s, f, k, g, d)
+    let d : part (part xs (backHeader B (length xs)) 92) 56 16 ≡ part xs (backHeader B (length xs) + 56) 16 = part-part xs (backHeader B (length xs)) 92 56 16 (omega arith) in
+    rw (h, w .front, w .array, w .back, w .other, x, y, g, d)
 
-pub parts-front : (B : ℕ) (xs : List ℕ) (back : ℕ) {f : ℕ} → f ≡ copyCheck B (length xs) Front (part xs B 92) (part xs (B + B) 16384) → (f ≡ 0 → ⊥)
-    → f ≡ partsCheck B xs back
-unfolding partsCheck
-parts-front B xs back e d = else-here _ e d
-
-module _ (B : ℕ) (xs : List ℕ) (back : ℕ) {f k : ℕ} (e : f ≡ copyCheck B (length xs) Front (part xs B 92) (part xs (B + B) 16384)) (z : f ≡ 0)
-    (g : k ≡ copyCheck B (length xs) Back (part xs (back + 16384) 92) (part xs back 16384)) where
-  pub parts-back : (k ≡ 0 → ⊥) → k ≡ partsCheck B xs back
+module _ (B : ℕ) (xs : List ℕ) (a₁ a₂ b₁ b₂ : ℕ) {f : ℕ} (e : f ≡ copyCheck B (length xs) Front (part xs a₁ 92) (part xs a₂ 16384)) where
+  pub parts-front : (f ≡ 0 → ⊥) → f ≡ partsCheck B xs a₁ a₂ b₁ b₂
   unfolding partsCheck
-  parts-back d = else-on e z (else-here _ g d)
+  parts-front d = else-here _ e d
 
-  pub parts-pair : {agree : Bool} {r : ℕ} → k ≡ 0 → agree ≡ same (part xs (B + B) 16384) (part xs back 16384)
-      → r ≡ orElse (when (not (same (part xs (B + 56) 16) (part xs (back + 16384 + 56) 16) && agree)) 17) (when (not (entriesOk B (length xs) (part xs (B + B) 16384))) 16)
-      → r ≡ partsCheck B xs back
-  unfolding partsCheck
-  parts-pair y a q = else-on e z (else-on g y (rw (← a) q))
+  module _ {k : ℕ} (z : f ≡ 0) (g : k ≡ copyCheck B (length xs) Back (part xs b₁ 92) (part xs b₂ 16384)) where
+    pub parts-back : (k ≡ 0 → ⊥) → k ≡ partsCheck B xs a₁ a₂ b₁ b₂
+    unfolding partsCheck
+    parts-back d = else-on e z (else-here _ g d)
 
--- ---- numbers and their answers
-
-pub judged-number : {n : ℕ} (k : ℕ) → n ≡ k → {A : Type 0} (v : A) → judged n 0 v ≡ judged k 0 v
-judged-number k e v = ap (λ (i : ℕ). judged i 0 v) e
-
--- n is none of the numbers below k, in the form in which a match of code says so
-abbrev pub Passed : ℕ → ℕ → Type 0
-Passed zero n = Unit
-Passed (suc k) n = Passed k n × (n ≡ k → ⊥)
-
-pub passed : (k n : ℕ) → Passed k n → k ≤ n
-passed zero n p = omega arith
-passed (suc k) n p = let h = passed k n (p .0) in let d = p .1 in omega arith
-
--- each number of the check is one of the table of refusals
-pub when-most : (t : Bool) (k m : ℕ) → k ≤ m → when t k ≤ m
-when-most true k m h = h
-when-most false k m h = omega arith
-
-pub else-most : (a b m : ℕ) → a ≤ m → b ≤ m → orElse a b ≤ m
-else-most zero b m h l = l
-else-most (suc k) b m h l = h
-
-room-most : (B n : ℕ) → roomCheck B n ≤ 24
-unfolding roomCheck
-room-most B n =
-    else-most (when (not (goodSize B)) 1) _ 24 (when-most (not (goodSize B)) 1 24 (omega arith))
-    (else-most (when (ltb n (3 * B)) 8) _ 24 (when-most (ltb n (3 * B)) 8 24 (omega arith))
-    (when-most (ltb (blocks B n - 1) (2 * arrayBlocks B + 3)) 10 24 (omega arith)))
-
-copy-most : (B n : ℕ) (s : Side) (x arr : List ℕ) → copyCheck B n s x arr ≤ 24
-unfolding copyCheck
-copy-most B n s x arr =
-    let signed : Bool = not (same (part x 0 8) signature) in
-    let summed : Bool = not (same (part x 16 4) (bytes 4 (crc (sets x 16 (zeros 4))))) in
-    let laid : Bool = not (same x (header B n s (part x 16 4) (part x 56 16) (part x 88 4))) in
-    else-most (when signed 4) _ 24 (when-most signed 4 24 (omega arith))
-    (else-most (when summed 5) _ 24 (when-most summed 5 24 (omega arith))
-    (else-most (when laid 16) _ 24 (when-most laid 16 24 (omega arith)) (when-most (not (same (part x 88 4) (bytes 4 (crc arr)))) 6 24 (omega arith))))
-
-pub check-most : (B n : ℕ) (t : Tables) → check B n t ≤ 24
-unfolding check
-check-most B n t =
-    let agree : Bool = not (same (guidOf (t .front)) (guidOf (t .back)) && same (t .front .array) (t .back .array)) in
-    else-most (roomCheck B n) _ 24 (room-most B n)
-    (else-most (copyCheck B n Front (headOf (t .front)) (t .front .array)) _ 24 (copy-most B n Front (headOf (t .front)) (t .front .array))
-    (else-most (copyCheck B n Back (headOf (t .back)) (t .back .array)) _ 24 (copy-most B n Back (headOf (t .back)) (t .back .array))
-    (else-most (when agree 17) _ 24 (when-most agree 17 24 (omega arith)) (when-most (not (entriesOk B n (t .front .array))) 16 24 (omega arith)))))
+    pub parts-pair : {agree : Bool} {r : ℕ} → k ≡ 0 → agree ≡ same (part xs a₂ 16384) (part xs b₂ 16384)
+        → r ≡ orElse (when (not (same (part xs (a₁ + 56) 16) (part xs (b₁ + 56) 16) && agree)) 17) (when (not (entriesOk B (length xs) (part xs a₂ 16384))) 16)
+        → r ≡ partsCheck B xs a₁ a₂ b₁ b₂
+    unfolding partsCheck
+    parts-pair y a q = else-on e z (else-on g y (rw (← a) q))

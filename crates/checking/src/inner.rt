@@ -1,7 +1,6 @@
 // The card check: 1, 8, 10; 4, 5, 16, 6 of each table; 17; 16 of the entries. The public call comes last; each `requires` before it is what a caller has tested.
 use header::Header;
-use units::Refusal;
-use units::Slot;
+use units::BytePlace;
 use units::Verdict;
 ghost use mathlib.Core.Path.{_≡_};
 ghost use mathlib.Core.Bool.{true, not, _&&_};
@@ -15,91 +14,36 @@ ghost use Rattle.units.specs.Meanings.{verdictMeans};
 ghost use Rattle.crc32.specs.Crc.{crc};
 ghost use Rattle.crc32.specs.Rows.{Rows};
 ghost use Rattle.tables.specs.Checks.{when, orElse, all};
-ghost use Rattle.tables.specs.Places.{firstUsable, lastUsable, backArray};
+ghost use Rattle.tables.specs.Places.{firstUsable, lastUsable};
 ghost use Rattle.tables.specs.Lens.{tables};
 ghost use Rattle.tables.specs.Entries.{entry, used, firstOf, lastOf, okEntry, clash, entriesOk};
-ghost use Rattle.tables.specs.Headers.{Side, Front, Back, ownBlock, otherBlock, arrayStart, laidFields};
+ghost use Rattle.tables.specs.Headers.{sideOf, alike, laidFields};
 ghost use Rattle.tables.specs.Check.{roomCheck, copyCheck, check};
-ghost use Rattle.tables.specs.Calls.{judged, checkAnswer};
+ghost use Rattle.tables.specs.Calls.{checkAnswer};
 
-// 1, 8, 10: whether an image of len bytes has room for two tables.
-fn room_number(len: usize, b: u64) -> u32
-    ensures { λ r. ⌜ r ≡ roomCheck b len ⌝ }
+// Whether two headers are the same in all fields but the GUID and the sums.
+fn alike(h: Header, k: Header) -> bool
+    ensures { λ r. ⌜ r ≡ alike h k ⌝ }
 {
-    if !units::good_block_size(b) {
-        return 1;
-    }
-    let n = len as u64;
-    if n < 3 * b {
-        return 8;
-    }
-    if n / b - 1 < 2 * (16384 / b) + 3 {
-        return 10;
-    }
-    0
+    (h.revision.1 == k.revision.1)
+        & (h.revision.0 == k.revision.0)
+        & (h.header_size_le == k.header_size_le)
+        & (h.reserved == k.reserved)
+        & (h.current_lba.0 == k.current_lba.0)
+        & (h.backup_lba.0 == k.backup_lba.0)
+        & (h.first_usable.0 == k.first_usable.0)
+        & (h.last_usable.0 == k.last_usable.0)
+        & (h.part_start.0 == k.part_start.0)
+        & (h.num_parts == k.num_parts)
+        & (h.part_size == k.part_size)
 }
 
-// The usable blocks, from the first to the last.
-pub fn first_usable(b: u64) -> u64
-    requires { ⌜ 0 < b ⌝ }
-    ensures { λ r. ⌜ r ≡ firstUsable b ⌝ }
-{
-    2 + 16384 / b
-}
-
-pub fn last_usable(len: usize, b: u64) -> u64
-    requires { ⌜ roomCheck b len ≡ 0 ⌝ }
-    ensures { λ r. ⌜ r ≡ lastUsable b len ⌝ }
-{
-    len as u64 / b - 16384 / b - 2
-}
-
-// Where the back array starts.
-fn back_array(len: usize, b: u64) -> usize
-    requires { ⌜ roomCheck b len ≡ 0 ⌝ }
-    ensures { λ r. ⌜ r ≡ backArray b len ⌝ }
-{
-    ((len as u64 / b - 16384 / b - 1) * b) as usize
-}
-
-// Whether a header has these fields and, in the rest but the GUID and the sums, what lay writes.
-fn fields_are(h: Header, own: u64, other: u64, first: u64, last: u64, start: u64) -> bool
-    ensures { λ r. ⌜ ((B n : ℕ) (s : Side) → own ≡ ownBlock B n s → other ≡ otherBlock B n s → first ≡ firstUsable B → last ≡ lastUsable B n → start ≡ arrayStart B n s → r ≡ laidFields B n s h) ⌝ }
-{
-    (h.revision.1 == 0)
-        & (h.revision.0 == 1)
-        & (h.header_size_le == 92)
-        & (h.reserved == 0)
-        & (h.current_lba.0 == own)
-        & (h.backup_lba.0 == other)
-        & (h.first_usable.0 == first)
-        & (h.last_usable.0 == last)
-        & (h.part_start.0 == start)
-        & (h.num_parts == 128)
-        & (h.part_size == 128)
-}
-
-// What 16 tests of a header, in the back table or in the front one.
+// What 16 tests of a header, in the back table or in the front one: it is like the one that lay would write.
 fn laid_fields(h: Header, len: usize, b: u64, back: bool) -> bool
     requires { ⌜ roomCheck b len ≡ 0 ⌝ }
-    ensures { λ r. ⌜ r ≡ laidFields b len (pick back Back Front) h ⌝ }
+    ensures { λ r. ⌜ r ≡ laidFields b len (sideOf back) h ⌝ }
 {
-    let first = first_usable(b);
-    let last = last_usable(len, b);
-    let end = len as u64 / b - 1;
-    if back {
-        return fields_are(h, end, 1, first, last, last + 1);
-    }
-    fields_are(h, 1, end, first, last, 2)
-}
-
-// The sum of the array at a place.
-pub fn array_sum<'a>(t: &'a [u32; 4096], img: &'a [u8], at: usize) -> u32
-    requires { ⌜ Rows 16 (now t) ⌝ }
-    requires { ⌜ at + 16384 ≤ length (now img) ⌝ }
-    ensures { λ r. ⌜ r ≡ crc (part (now (img .entry)) at 16384) ⌝ }
-{
-    crc32::inner::sum(t, &img[at..at + 16384])
+    alike(h, tables::inner::card_header(len, b, back, h.disk_guid))
 }
 
 // Whether n bytes at one place are those at another.
@@ -111,16 +55,16 @@ fn same_parts(img: &[u8], at: usize, other: usize, n: usize) -> bool
 }
 
 // The back array's sum: the front array's, where the two are the same.
-fn back_sum<'a>(t: &'a [u32; 4096], img: &'a [u8], at: usize, agree: bool, sum: u32) -> u32
+fn back_sum<'a>(t: &'a [u32; 4096], img: &'a [u8], at: BytePlace, agree: bool, sum: u32) -> u32
     requires { ⌜ Rows 16 (now t) ⌝ }
-    requires { ⌜ at + 16384 ≤ length (now img) ⌝ }
-    requires { ⌜ (agree ≡ true → sum ≡ crc (part (now img) at 16384)) ⌝ }
-    ensures { λ r. ⌜ r ≡ crc (part (now (img .entry)) at 16384) ⌝ }
+    requires { ⌜ at .0 + 16384 ≤ length (now img) ⌝ }
+    requires { ⌜ (agree ≡ true → sum ≡ crc (part (now img) (at .0) 16384)) ⌝ }
+    ensures { λ r. ⌜ r ≡ crc (part (now (img .entry)) (at .0) 16384) ⌝ }
 {
     if agree {
         return sum;
     }
-    array_sum(t, img, at)
+    tables::inner::array_sum(t, img, at)
 }
 
 // 4, 5, 16, 6 of the table whose header is at a place and whose array has a sum.
@@ -134,7 +78,7 @@ fn copy_number<'a>(
 ) -> u32
     requires { ⌜ Rows 16 (now t) ⌝ }
     requires { ⌜ (roomCheck b (length (now img)) ≡ 0) × (at + 92 ≤ length (now img)) ⌝ }
-    ensures { λ r. ⌜ ((array : ℕ) → sum ≡ crc (part (now (img .entry)) array 16384) → r ≡ copyCheck b (length (now (img .entry))) (pick back Back Front) (part (now (img .entry)) at 92) (part (now (img .entry)) array 16384)) ⌝ }
+    ensures { λ r. ⌜ ((array : ℕ) → sum ≡ crc (part (now (img .entry)) array 16384) → r ≡ copyCheck b (length (now (img .entry))) (sideOf back) (part (now (img .entry)) at 92) (part (now (img .entry)) array 16384)) ⌝ }
 {
     if !units::inner::same_at(img, at, b"EFI PART") {
         return 4;
@@ -234,9 +178,9 @@ fn entries_ok(img: &[u8], at: usize, b: u64) -> bool
     requires { ⌜ (roomCheck b (length (now img)) ≡ 0) × (at + 16384 ≤ length (now img)) ⌝ }
     ensures { λ r. ⌜ r ≡ entriesOk b (length (now (img .entry))) (part (now (img .entry)) at 16384) ⌝ }
 {
-    let first = first_usable(b);
-    let last = last_usable(img.len(), b);
-    if !each_ok(img, at, first, last) {
+    let first = tables::inner::first_usable(b);
+    let last = tables::inner::last_usable(img.len(), b);
+    if !each_ok(img, at, first.0, last.0) {
         return false;
     }
     all_apart(img, at)
@@ -263,28 +207,30 @@ fn tables_number<'a>(t: &'a [u32; 4096], img: &'a [u8], b: u64) -> u32
     requires { ⌜ roomCheck b (length (now img)) ≡ 0 ⌝ }
     ensures { λ r. ⌜ r ≡ check b (length (now (img .entry))) (tables b (now (img .entry))) ⌝ }
 {
-    let size = b as usize;
-    let array = size + size;
-    let back = back_array(img.len(), b);
-    let agree = same_parts(img, array, back, 16384);
-    let sum = array_sum(t, img, array);
-    let front_found = copy_number(t, img, size, b, false, sum);
+    let len = img.len();
+    let front = tables::inner::header_place(len, b, false);
+    let back = tables::inner::header_place(len, b, true);
+    let array = tables::inner::array_place(len, b, false);
+    let other = tables::inner::array_place(len, b, true);
+    let agree = same_parts(img, array.0, other.0, 16384);
+    let sum = tables::inner::array_sum(t, img, array);
+    let front_found = copy_number(t, img, front.0, b, false, sum);
     if front_found != 0 {
         return front_found;
     }
-    let other_sum = back_sum(t, img, back, agree, sum);
-    let back_found = copy_number(t, img, back + 16384, b, true, other_sum);
+    let other_sum = back_sum(t, img, other, agree, sum);
+    let back_found = copy_number(t, img, back.0, b, true, other_sum);
     if back_found != 0 {
         return back_found;
     }
-    pair_number(img, size, back + 16384, array, agree, b)
+    pair_number(img, front.0, back.0, array.0, agree, b)
 }
 
 // The number of the check, for the calls that it comes first in. The check sum's table is taken here, once.
 pub fn check_number(img: &[u8], b: u64) -> u32
     ensures { λ r. ⌜ r ≡ check b (length (now (img .entry))) (tables b (now (img .entry))) ⌝ }
 {
-    let room = room_number(img.len(), b);
+    let room = tables::inner::room_number(img.len(), b);
     if room != 0 {
         return room;
     }
@@ -292,43 +238,9 @@ pub fn check_number(img: &[u8], b: u64) -> u32
     tables_number(&t, img, b)
 }
 
-// The verdict that a number stands for. It carries no slot.
-pub fn verdict_of(n: u32) -> Verdict
-    requires { ⌜ n ≤ 24 ⌝ }
-    ensures { λ r. ⌜ verdictMeans r ≡ judged n 0 tt ⌝ }
-{
-    match n {
-        0 => Verdict::Accepted,
-        1 => Verdict::Refused(Refusal::BadBlockSize),
-        2 => Verdict::Refused(Refusal::Short),
-        3 => Verdict::Refused(Refusal::Overflow),
-        4 => Verdict::Refused(Refusal::InvalidGptSignature),
-        5 => Verdict::Refused(Refusal::InvalidCRC32Checksum),
-        6 => Verdict::Refused(Refusal::PartsCrc),
-        7 => Verdict::Refused(Refusal::BadEntrySize),
-        8 => Verdict::Refused(Refusal::ToSmallForBackup),
-        9 => Verdict::Refused(Refusal::MissingBackupLba),
-        10 => Verdict::Refused(Refusal::BackupLbaToEarly),
-        11 => Verdict::Refused(Refusal::WritingToWrongLba),
-        12 => Verdict::Refused(Refusal::InvalidMBRLength),
-        13 => Verdict::Refused(Refusal::InvalidMBRSignature),
-        14 => Verdict::Refused(Refusal::InvalidPartitionLength),
-        15 => Verdict::Refused(Refusal::NoRoom),
-        16 => Verdict::Refused(Refusal::WrongLayout),
-        17 => Verdict::Refused(Refusal::Disagree),
-        18 => Verdict::Refused(Refusal::BadSlot),
-        19 => Verdict::Refused(Refusal::NilType),
-        20 => Verdict::Refused(Refusal::BadRange),
-        21 => Verdict::Refused(Refusal::OutsideUsable),
-        22 => Verdict::Refused(Refusal::Overlap(Slot(0))),
-        23 => Verdict::Refused(Refusal::EmptySlot),
-        _ => Verdict::Refused(Refusal::PastPartition),
-    }
-}
-
 // The card check.
 pub fn check(img: &[u8], b: u64) -> Verdict
     ensures { λ r. ⌜ verdictMeans r ≡ checkAnswer b (now (img .entry)) ⌝ }
 {
-    verdict_of(check_number(img, b))
+    tables::inner::verdict_of(check_number(img, b))
 }

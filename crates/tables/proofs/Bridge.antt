@@ -17,7 +17,7 @@ use Rattle.header.specs.Format.{signature, headerAt}
 use Rattle.header.proofs.Laws.{sum-fits}
 use Rattle.tables.specs.Places.{firstUsable, lastUsable}
 use Rattle.tables.specs.Entries.{zeros}
-use Rattle.tables.specs.Headers.{Side, Front, Back, ownBlock, otherBlock, arrayStart, kind, ground, shape, header, laidFields}
+use Rattle.tables.specs.Headers.{Side, Front, Back, ownBlock, otherBlock, arrayStart, kind, ground, shape, header, alike, laidFields}
 use Rattle.tables.proofs.Orders.{by-test, same-of}
 use Rattle.tables.proofs.Room.{Room}
 use Rattle.tables.proofs.EntryLaws.{length-zeros}
@@ -95,7 +95,7 @@ and-true false = refl
 
 pub header-fields : (B n : ℕ) (s : Side) (x : List ℕ) → length x ≡ 92 → Small x → Narrow B n s → part x 0 8 ≡ signature
     → same x (header B n s (part x 16 4) (part x 56 16) (part x 88 4)) ≡ laidFields B n s (headerAt x 0)
-unfolding header kind ground shape laidFields
+unfolding header kind ground shape laidFields alike
 header-fields B n s x l b w g =
     let p : List ℕ = part x 88 4 in
     let r84 : List ℕ = bytes 4 128 ++ p in

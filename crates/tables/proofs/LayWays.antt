@@ -26,7 +26,7 @@ use Rattle.mbr.specs.Storing.{wholeStored}
 use Rattle.mbr.proofs.Laws.{store-all}
 use Rattle.tables.specs.Places.{blocks, arrayBlocks, firstUsable, lastUsable, backArray, backHeader}
 use Rattle.tables.specs.Entries.{zeros}
-use Rattle.tables.specs.Headers.{Side, Front, Back, ownBlock, otherBlock, arrayStart, copyOf, cardHeader, headBlock}
+use Rattle.tables.specs.Headers.{Side, Front, Back, headerPlace, arrayPlace, ownBlock, arrayStart, copyOf, headBlock}
 use Rattle.tables.specs.Check.{roomCheck}
 use Rattle.tables.specs.Calls.{judged, settle, mbr, layAt}
 use Rattle.tables.proofs.Room.{Room}
@@ -35,86 +35,19 @@ use Rattle.tables.proofs.Good.{room-ok, card-whole}
 use Rattle.tables.proofs.State.{length-mbr-of}
 use Rattle.tables.proofs.Builder.{card-block}
 
--- ---- the room check
-
-abbrev pub roomAnswer : ℕ → ℕ → Answer Unit
-roomAnswer b n = judged (roomCheck b n) 0 tt
-
-module _ {r : Bool} (b n : ℕ) (g : r ≡ goodSize b) where
-  pub room-size : not r ≡ true → refuse 1 ≡ roomAnswer b n
-  unfolding roomCheck judged
-  room-size t = rw (← g, t)
-
-  pub room-short : not r ≡ false → n < 3 * b → refuse 8 ≡ roomAnswer b n
-  unfolding roomCheck judged
-  room-short t h = rw (← g, t, lt-ltb n (3 * b) h)
-
-  pub room-early : not r ≡ false → 3 * b ≤ n → blocks b n - 1 < 2 * arrayBlocks b + 3 → refuse 10 ≡ roomAnswer b n
-  unfolding roomCheck judged
-  room-early t h k = rw (← g, t, le-ltb n (3 * b) h, lt-ltb (blocks b n - 1) (2 * arrayBlocks b + 3) k)
-
-  pub room-fine : not r ≡ false → 3 * b ≤ n → 2 * arrayBlocks b + 3 ≤ blocks b n - 1 → accepted tt ≡ roomAnswer b n
-  unfolding roomCheck judged
-  room-fine t h k = rw (← g, t, le-ltb n (3 * b) h, le-ltb (blocks b n - 1) (2 * arrayBlocks b + 3) k)
-
 -- ---- places
 
--- an array has at most 16,384 blocks
-pub array-few : (B : ℕ) → arrayBlocks B ≤ 16384
-array-few B = div-le-self 16384 B
-
-pub blocks-some : (B n : ℕ) → 0 < B → 3 * B ≤ n → 3 ≤ blocks B n
-blocks-some B n h k = le-div-iff-mul-le h .1 k
-
-whole-blocks : (k B : ℕ) → 0 < k → k * B ≡ (k - 1) * B + B
-whole-blocks zero B h = absurd (omega arith)
-whole-blocks (suc k) B h = let e : suc k - 1 ≡ k = omega arith in rw e (suc-mul k B)
-
--- the last whole block, by the bytes that are left over behind it
-pub last-place : (B n : ℕ) → Room B n → (n - n % B - B ≡ backHeader B n) × (n % B + B ≤ n)
+-- the blocks of both sides, as places
+pub side-place : (B n : ℕ) (s : Side) → Room B n → (ownBlock B n s * B ≡ headerPlace B n s) × (headerPlace B n s + B ≤ n)
 unfolding backHeader
-last-place B n r =
-    let d : n / B * B + n % B ≡ n = div-add-mod' n B in
-    let k : 2 * arrayBlocks B + 3 ≤ n / B - 1 = r .count in
-    let w : n / B * B ≡ (n / B - 1) * B + B = whole-blocks (n / B) B (omega arith) in
-    (omega arith, omega arith)
+side-place B n Front r = (omega arith, omega (arith, r .enough))
+side-place B n Back r = (refl, r .top)
+
+pub array-place : (B n : ℕ) (s : Side) → Room B n → (arrayStart B n s * B ≡ arrayPlace B n s) × (arrayPlace B n s + 16384 + B ≤ n)
+array-place B n Front r = (omega arith, omega (arith, r .low, r .seam, r .top))
+array-place B n Back r = (r .last, omega (arith, r .seam, r .top))
 
 -- ---- headers
-
--- the blocks as the code counts them, down from the backup's block
-module _ (B n : ℕ) (r : Room B n) where
-  pub first-is : 2 + 16384 / B ≡ firstUsable B
-  unfolding firstUsable
-  first-is = refl
-
-  pub last-is : n / B - 1 - 16384 / B - 1 ≡ lastUsable B n
-  unfolding lastUsable
-  last-is = omega arith
-
-  pub start-is : n / B - 1 - 16384 / B ≡ lastUsable B n + 1
-  unfolding lastUsable
-  start-is = omega (arith, r .count)
-
-  pub header-is : (s : Side) (g : Guid) {own other start : Lba}
-      → own ≡ record { 0 = ownBlock B n s } → other ≡ record { 0 = otherBlock B n s } → start ≡ record { 0 = arrayStart B n s }
-      → _≡_ {A = Header}
-      (record {
-        revision = record { 0 = 1; 1 = 0 };
-        «header_size_le» = 92;
-        crc32 = 0;
-        reserved = 0;
-        «current_lba» = own;
-        «backup_lba» = other;
-        «first_usable» = record { 0 = 2 + 16384 / B };
-        «last_usable» = record { 0 = n / B - 1 - 16384 / B - 1 };
-        «disk_guid» = g;
-        «part_start» = start;
-        «num_parts» = 128;
-        «part_size» = 128;
-        «crc32_parts» = 0;
-      })
-      (cardHeader B n s g)
-  header-is s g e f k = rw (e, f, k, first-is, last-is)
 
 -- the block that the code stores is the one that the tables name, for each array of that sum
 pub head-block : (B n : ℕ) (s : Side) (g : Guid) (arr : List ℕ) {parts : ℕ} → parts ≡ crc arr → headBlock B n s g parts ≡ copyOf B n s (guidBytes g) arr .header
@@ -183,6 +116,6 @@ unfolding settle judged
 settled v zero s old new e = let z : _≡_ {A = ℕ} 0 1 = cc in absurd (omega arith)
 settled v (suc k) s old new e = ap (λ a. gives a old) (sym e)
 
-pub lay-refuses : (B n : ℕ) (xs g : List ℕ) {w : Why} → refused w ≡ roomAnswer B n → Ends (layAt B n xs g) (refused w) xs
+pub lay-refuses : (B n : ℕ) (xs g : List ℕ) {k : ℕ} {w : Why} → k ≡ roomCheck B n → _≡_ {A = Answer Unit} (refused w) (judged k 0 tt) → Ends (layAt B n xs g) (refused w) xs
 unfolding layAt
-lay-refuses B n xs g e = ends (settled tt (roomCheck B n) 0 xs _ e)
+lay-refuses B n xs g h e = ends (settled tt (roomCheck B n) 0 xs _ (e ∙ ap (λ (i : ℕ). judged i 0 tt) h))

@@ -20,4 +20,5 @@ pub mod Bridge
 pub mod ReadCheck
 pub mod Corollaries
 pub mod Ways
+pub mod NumberWays
 pub mod LayWays

@@ -26,7 +26,7 @@ use Rattle.tables.specs.Checks.{when, orElse}
 use Rattle.tables.specs.Places.{firstUsable, lastUsable, backArray, backHeader}
 use Rattle.tables.specs.Lens.{Tables, tablesAt}
 use Rattle.tables.specs.Entries.{entriesOk}
-use Rattle.tables.specs.Headers.{Side, Front, Back, ownBlock, otherBlock, laidFields}
+use Rattle.tables.specs.Headers.{Side, Front, Back, ownBlock, otherBlock, alike, laidFields}
 use Rattle.tables.specs.Check.{roomCheck, copyCheck, headOf, guidOf, check}
 use Rattle.tables.specs.Calls.{judged, checkAnswer}
 use Rattle.tables.proofs.Orders.{by-pick, by-test, and-left, and-right}
@@ -136,7 +136,7 @@ read-tells xs at h =
     never e = absurd (let z : _≡_ {A = ℕ} 0 1 = cc in omega arith)
 
 other-last : (B n : ℕ) (s : Side) (h : Header) → (h .«last_usable» .0 ≡ lastUsable B n → ⊥) → laidFields B n s h ≡ false
-unfolding laidFields
+unfolding laidFields alike
 other-last B n s h d =
     by-test (laidFields B n s h)
     (λ t.

@@ -10,7 +10,7 @@ use Rattle.crc32.specs.Crc.{crc}
 use Rattle.header.specs.declared.Header.{Header}
 use Rattle.header.specs.Format.{signature}
 use Rattle.header.specs.Writing.{withSums, headerBlock}
-use Rattle.tables.specs.Places.{blocks, firstUsable, lastUsable, backHeader}
+use Rattle.tables.specs.Places.{blocks, firstUsable, lastUsable, backArray, backHeader}
 use Rattle.tables.specs.Lens.{Copy, Tables}
 use Rattle.tables.specs.Entries.{zeros}
 
@@ -26,6 +26,11 @@ sideOf true = Back
 abbrev pub headerPlace : ℕ → ℕ → Side → ℕ
 headerPlace B n Front = B
 headerPlace B n Back = backHeader B n
+
+-- the byte place of an array
+abbrev pub arrayPlace : ℕ → ℕ → Side → ℕ
+arrayPlace B n Front = B + B
+arrayPlace B n Back = backArray B n
 
 -- current, backup and array start
 abbrev pub ownBlock : ℕ → ℕ → Side → ℕ
@@ -90,17 +95,21 @@ cardHeader B n s g =
 unfoldable pub headBlock : ℕ → ℕ → Side → Guid → ℕ → List ℕ
 headBlock B n s g parts = headerBlock (withSums (cardHeader B n s g) parts) B
 
--- a header has these fields, whatever its GUID and its sums are: what 16 tests of a header
+-- two headers are the same in all fields but the GUID and the sums
+unfoldable pub alike : Header → Header → Bool
+alike h k =
+    eqb (h .revision .1) (k .revision .1)
+    && (eqb (h .revision .0) (k .revision .0)
+    && (eqb (h .«header_size_le») (k .«header_size_le»)
+    && (eqb (h .reserved) (k .reserved)
+    && (eqb (h .«current_lba» .0) (k .«current_lba» .0)
+    && (eqb (h .«backup_lba» .0) (k .«backup_lba» .0)
+    && (eqb (h .«first_usable» .0) (k .«first_usable» .0)
+    && (eqb (h .«last_usable» .0) (k .«last_usable» .0)
+    && (eqb (h .«part_start» .0) (k .«part_start» .0)
+    && (eqb (h .«num_parts») (k .«num_parts»)
+    && eqb (h .«part_size») (k .«part_size»))))))))))
+
+-- what 16 tests of a header: it is like the one that lay would write
 unfoldable pub laidFields : ℕ → ℕ → Side → Header → Bool
-laidFields B n s h =
-    eqb (h .revision .1) 0
-    && (eqb (h .revision .0) 1
-    && (eqb (h .«header_size_le») 92
-    && (eqb (h .reserved) 0
-    && (eqb (h .«current_lba» .0) (ownBlock B n s)
-    && (eqb (h .«backup_lba» .0) (otherBlock B n s)
-    && (eqb (h .«first_usable» .0) (firstUsable B)
-    && (eqb (h .«last_usable» .0) (lastUsable B n)
-    && (eqb (h .«part_start» .0) (arrayStart B n s)
-    && (eqb (h .«num_parts») 128
-    && eqb (h .«part_size») 128)))))))))
+laidFields B n s h = alike h (cardHeader B n s (h .«disk_guid»))

@@ -1,15 +1,41 @@
 // Leaves for our own crates: each `requires` is a range that its caller has tested. No public calls.
+use crate::BytePlace;
 use crate::Guid;
+use crate::Lba;
 use crate::Number;
+use crate::Slot;
 use crate::Tail;
 use crate::Width;
 ghost use mathlib.Core.Path.{_≡_};
-ghost use Prim.Native.Nat.{_+_, _^_, _≤_, _<_};
+ghost use Prim.Native.Nat.{_+_, _*_, _-_, _^_, _≤_, _<_};
 ghost use lib.ListN.{length, replicate};
 ghost use lib.Seq.{sets};
 ghost use Rattle.units.specs.Bytes.{part, num, bytes, total, laid, same, allZero};
 ghost use Rattle.units.specs.Numbers.{widthOf, bytesIn, valueIn};
 ghost use Rattle.units.specs.Guids.{tailAt, tailBytes, guidAt, guidBytes};
+
+// Where a block starts, in blocks of b bytes: the one way from a block to a byte place.
+pub fn place(block: Lba, b: u64) -> BytePlace
+    requires { ⌜ block .0 * b < 2 ^ 64 ⌝ }
+    ensures { λ r. ⌜ r ≡ record { 0 = block .0 * b } ⌝ }
+{
+    BytePlace((block.0 * b) as usize)
+}
+
+// The array place of a slot, and the slot of an array place: the one way from either to the other.
+pub fn array_place(slot: Slot) -> u32
+    requires { ⌜ 1 ≤ slot .0 ⌝ }
+    ensures { λ r. ⌜ r ≡ slot .0 - 1 ⌝ }
+{
+    slot.0 - 1
+}
+
+pub fn slot_at(place: u32) -> Slot
+    requires { ⌜ place < 0xFFFFFFFF ⌝ }
+    ensures { λ r. ⌜ r ≡ record { 0 = place + 1 } ⌝ }
+{
+    Slot(place + 1)
+}
 
 // The bytes of a width.
 pub fn width_bytes(width: Width) -> usize

@@ -121,7 +121,7 @@ impl Lba {
         if 0xFFFF_FFFF_FFFF_FFFF / b < lba {
             return Placed::Refused(Refusal::Overflow);
         }
-        Placed::At(BytePlace((lba * b) as usize))
+        Placed::At(inner::place(self, b))
     }
 }
 
@@ -172,7 +172,7 @@ impl Slot {
         if slot < 1 || count < slot {
             return ArrayPlace::Refused(Refusal::BadSlot);
         }
-        ArrayPlace::At(slot - 1)
+        ArrayPlace::At(inner::array_place(self))
     }
 
     // The slot at a place of an array of count entries: 18.
@@ -182,7 +182,7 @@ impl Slot {
         if count <= place {
             return SlotFound::Refused(Refusal::BadSlot);
         }
-        SlotFound::At(Slot(place + 1))
+        SlotFound::At(inner::slot_at(place))
     }
 }
 

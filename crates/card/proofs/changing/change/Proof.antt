@@ -1,11 +1,8 @@
 -- `card::changing::change` meets its contract. Assumes nothing.
 use mathlib.Core.Path.{_≡_, ap, _∙_}
-use native.Mathlib.Omega.{arith}
 use borrow.Author.Needs.{needs}
 use lib.ListN.{length}
 use lib.Seq.{length-sets}
-use Rattle.tables.proofs.Good.{room-ok}
-use Rattle.tables.proofs.Changes.{slot-ok}
 use Rattle.card.proofs.ChangeWays.{check-has-room, all-changed}
 use Rattle.card.proofs.changing.change.Statement.{statement}
 use Rattle.card.proofs.changing.change.Tie as tie
@@ -16,39 +13,24 @@ kept-guid-requires c κs = let s = c .before .before .before in check-has-room (
 table-requires : tie.Need-table-requires
 table-requires c κs = search needs
 
-sub-put-slots : tie.Need-sub-put-slots
-sub-put-slots c =
-    let s = c .before .before .before .before .before .before in
-    let k = slot-ok (s .args .slot) (s .pre .1 .0) in
-    omega (arith, k .0)
-
 put-slots-requires : tie.Need-put-slots-requires
 put-slots-requires c κs =
     let s = c .before .before .before .before .before .before in
-    (check-has-room (s .args .b) (s .args .img .now) (s .pre .0), (slot-ok (s .args .slot) (s .pre .1 .0) .1, s .pre .1 .1))
+    ((check-has-room (s .args .b) (s .args .img .now) (s .pre .0), s .pre .1 .0), s .pre .1 .1)
 
 -- the image is as long with the entry stored
 slots-length : (c : tie.After-put-slots) → length (c .put-slots .last .0) ≡ length (c .before .before .before .before .before .before .before .args .img .now)
 slots-length c = ap length (c .put-slots .ensures) ∙ simp length-sets
 
-add-array-sum : tie.Need-add-array-sum
-add-array-sum c =
+front-sum-requires : tie.Need-front-sum-requires
+front-sum-requires c κs =
     let s = c .before .before .before .before .before .before .before .before .before .before .before in
-    let r = room-ok _ _ (check-has-room (s .args .b) (s .args .img .now) (s .pre .0)) in
-    omega (arith, r .most)
-
-array-sum-requires : tie.Need-array-sum-requires
-array-sum-requires c κs =
-    let y = c .before .before .before .before in
-    let s = c .before .before .before .before .before .before .before .before .before .before .before in
-    let r = room-ok _ _ (check-has-room (s .args .b) (s .args .img .now) (s .pre .0)) in
-    (c .before .before .before .before .before .before .table .ensures, omega (arith, r .low, r .seam, r .top, slots-length y))
+    (c .before .before .before .before .before .before .table .ensures, rw (slots-length (c .before .before .before .before)) (check-has-room (s .args .b) (s .args .img .now) (s .pre .0)))
 
 put-header-blocks-requires : tie.Need-put-header-blocks-requires
 put-header-blocks-requires c κs =
-    let y = c .before .before .before .before .before .before .before in
     let s = c .before .before .before .before .before .before .before .before .before .before .before .before .before .before in
-    (c .before .before .before .before .before .before .before .before .before .table .ensures, rw (slots-length y) (check-has-room (s .args .b) (s .args .img .now) (s .pre .0)))
+    (c .before .before .before .before .before .before .before .before .before .table .ensures, rw (slots-length (c .before .before .before .before .before .before .before)) (check-has-room (s .args .b) (s .args .img .now) (s .pre .0)))
 
 same-length : tie.Need-same-length
 same-length c = search needs
@@ -61,8 +43,8 @@ returns c =
     let g = y .before .before .before in
     let s = g .before .before .before .before in
     let a = s .args in
-    all-changed (a .b) (a .img .now) (y .put-slots .last .0) (p .put-header-blocks .last .1 .0) (a .e .now) (a .slot) (g .kept-guid .result) (x .array-sum .result) (s .pre .0) (s .pre .1 .0) (s .pre .1 .1)
-    (g .kept-guid .ensures) (y .put-slots .ensures) (x .array-sum .ensures) (p .put-header-blocks .ensures)
+    all-changed (a .b) (a .img .now) (y .put-slots .last .0) (p .put-header-blocks .last .1 .0) (a .e .now) (a .slot .0) (g .kept-guid .result) (x .front-sum .result) (s .pre .0) (s .pre .1 .0) (s .pre .1 .1)
+    (g .kept-guid .ensures) (y .put-slots .ensures) (x .front-sum .ensures) (p .put-header-blocks .ensures)
 
 pub change-spec : {M : Type 1} → statement M
 change-spec =
@@ -70,10 +52,8 @@ change-spec =
     (tie.spec
     kept-guid-requires
     table-requires
-    sub-put-slots
     put-slots-requires
-    add-array-sum
-    array-sum-requires
+    front-sum-requires
     put-header-blocks-requires
     same-length
     returns)

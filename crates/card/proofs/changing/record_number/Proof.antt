@@ -1,6 +1,8 @@
 -- `card::changing::record_number` meets its contract: one law for each way out. Assumes nothing.
+use mathlib.Core.Path.{ap}
 use native.Mathlib.Omega.{arith}
 use borrow.Author.Needs.{needs}
+use Rattle.units.specs.declared.Lba.{Lba}
 use Rattle.tables.proofs.Good.{room-ok}
 use Rattle.card.proofs.ChangeWays.{recordCheck, record-18, record-19, record-20, record-21, record-0}
 use Rattle.card.proofs.changing.record_number.Statement.{statement}
@@ -11,14 +13,14 @@ bad-slot-requires c κs = search needs
 
 returns : tie.Need-returns
 unfolding recordCheck
-returns c = let a = c .before .before .before .args in record-18 (a .b) (a .len) (a .slot) (a .e .now) (c .before .bad-slot .ensures) (c .if1 .taken)
+returns c = let a = c .before .before .before .args in record-18 (a .b) (a .len) (a .slot .0) (a .e .now) (c .before .bad-slot .ensures) (c .if1 .taken)
 
 all-zero-requires : tie.Need-all-zero-requires
 all-zero-requires c κs = search needs
 
 returns-2 : tie.Need-returns-2
 unfolding recordCheck
-returns-2 c = let a = c .before .before .before .before .before .args in record-19 (a .b) (a .len) (a .slot) (a .e .now) (c .before .before .before .bad-slot .ensures) (c .before .before .if1 .left) (c .before .all-zero .ensures) (c .if2 .taken)
+returns-2 c = let a = c .before .before .before .before .before .args in record-19 (a .b) (a .len) (a .slot .0) (a .e .now) (c .before .before .before .bad-slot .ensures) (c .before .before .if1 .left) (c .before .all-zero .ensures) (c .if2 .taken)
 
 u64-at-requires : tie.Need-u64-at-requires
 u64-at-requires c κs = search needs
@@ -30,7 +32,7 @@ returns-3 : tie.Need-returns-3
 unfolding recordCheck
 returns-3 c =
     let a = c .before .before .before .before .before .before .before .before .args in
-    record-20 (a .b) (a .len) (a .slot) (a .e .now) (c .before .before .before .before .before .before .bad-slot .ensures) (c .before .before .before .before .before .if1 .left) (c .before .before .before .before .all-zero .ensures) (c .before .before .before .if2 .left)
+    record-20 (a .b) (a .len) (a .slot .0) (a .e .now) (c .before .before .before .before .before .before .bad-slot .ensures) (c .before .before .before .before .before .if1 .left) (c .before .before .before .before .all-zero .ensures) (c .before .before .before .if2 .left)
     (c .before .before .u64-at .ensures) (c .before .u64-at2 .ensures) (c .if3 .taken)
 
 first-usable-requires : tie.Need-first-usable-requires
@@ -42,16 +44,24 @@ last-usable-requires c κs = search needs
 returns-4 : tie.Need-returns-4
 unfolding recordCheck
 returns-4 c =
-    let a = c .before .before .before .before .before .before .before .before .before .before .before .args in
-    record-21 (a .b) (a .len) (a .slot) (a .e .now) (c .before .before .before .before .before .before .before .before .before .bad-slot .ensures) (c .before .before .before .before .before .before .before .before .if1 .left) (c .before .before .before .before .before .before .before .all-zero .ensures) (c .before .before .before .before .before .before .if2 .left)
-    (c .before .before .before .before .before .u64-at .ensures) (c .before .before .before .before .u64-at2 .ensures) (c .before .before .before .if3 .left) (c .before .before .first-usable .ensures) (c .before .last-usable .ensures) (c .if4 .taken)
+    let first = c .before .before .before .before in
+    let read = first .before .before in
+    let used = read .before .before in
+    let slot = used .before .before in
+    let a = slot .before .before .before .args in
+    record-21 (a .b) (a .len) (a .slot .0) (a .e .now) (slot .before .bad-slot .ensures) (slot .if1 .left) (used .before .all-zero .ensures) (used .if2 .left)
+    (read .before .u64-at .ensures) (read .u64-at2 .ensures) (first .before .if3 .left) (ap (λ (l : Lba). l .0) (first .first-usable .ensures)) (ap (λ (l : Lba). l .0) (c .before .before .before .last-usable .ensures)) (c .if4 .taken)
 
 returns-5 : tie.Need-returns-5
 unfolding recordCheck
 returns-5 c =
-    let a = c .before .before .before .before .before .before .before .before .before .before .before .args in
-    record-0 (a .b) (a .len) (a .slot) (a .e .now) (c .before .before .before .before .before .before .before .before .before .bad-slot .ensures) (c .before .before .before .before .before .before .before .before .if1 .left) (c .before .before .before .before .before .before .before .all-zero .ensures) (c .before .before .before .before .before .before .if2 .left)
-    (c .before .before .before .before .before .u64-at .ensures) (c .before .before .before .before .u64-at2 .ensures) (c .before .before .before .if3 .left) (c .before .before .first-usable .ensures) (c .before .last-usable .ensures) (c .if4 .left)
+    let first = c .before .before .before .before in
+    let read = first .before .before in
+    let used = read .before .before in
+    let slot = used .before .before in
+    let a = slot .before .before .before .args in
+    record-0 (a .b) (a .len) (a .slot .0) (a .e .now) (slot .before .bad-slot .ensures) (slot .if1 .left) (used .before .all-zero .ensures) (used .if2 .left)
+    (read .before .u64-at .ensures) (read .u64-at2 .ensures) (first .before .if3 .left) (ap (λ (l : Lba). l .0) (first .first-usable .ensures)) (ap (λ (l : Lba). l .0) (c .before .before .before .last-usable .ensures)) (c .if4 .left)
 
 pub record-number-spec : {M : Type 1} → statement M
 record-number-spec =

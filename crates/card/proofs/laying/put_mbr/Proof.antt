@@ -21,7 +21,7 @@ returns c =
     let put = c .before .before in
     let made = put .before .before in
     let a = made .before .before .before in
-    mbr-stored (a .args .k) (a .args .img .now) _ (a .pre) (made .before .record-size .ensures) (rw (made .with-lb-size .ensures) at (put .overwrite-lba0 .ensures))
+    mbr-stored (a .args .last .0) (a .args .img .now) _ (a .pre) (made .before .record-size .ensures) (rw (made .with-lb-size .ensures) at (put .overwrite-lba0 .ensures))
 
 pub put-mbr-spec : {M : Type 1} → statement M
 put-mbr-spec =

@@ -8,10 +8,15 @@ cast-result : tie.Need-cast-result
 cast-result c = search needs
 
 returns : tie.Need-returns
-returns c = rw (lt-ltb _ _ (c .if1 .taken))
+returns c = rw (lt-ltb _ _ (c .before .if1 .taken))
 
 returns-2 : tie.Need-returns-2
 returns-2 c = rw (le-ltb _ _ (c .if1 .left))
 
 pub record-size-spec : {M : Type 1} → statement M
-record-size-spec = tie.close (tie.spec cast-result returns returns-2)
+record-size-spec =
+    tie.close
+    (tie.spec
+    cast-result
+    returns
+    returns-2)

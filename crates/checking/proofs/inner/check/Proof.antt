@@ -4,7 +4,7 @@ use native.Mathlib.Omega.{arith}
 use borrow.Author.Needs.{needs}
 use lib.ListN.{length}
 use Rattle.tables.specs.Lens.{tables}
-use Rattle.checking.proofs.CheckWays.{judged-number, check-most}
+use Rattle.tables.proofs.NumberWays.{judged-number, check-most}
 use Rattle.checking.proofs.inner.check.Statement.{statement}
 use Rattle.checking.proofs.inner.check.Tie as tie
 

@@ -1,7 +1,7 @@
 -- `checking::inner::check_number` meets its contract: the room first. Assumes nothing.
 use mathlib.Core.Path.{sym, _∙_}
 use borrow.Author.Needs.{needs}
-use Rattle.checking.proofs.CheckWays.{check-room}
+use Rattle.tables.proofs.NumberWays.{check-room}
 use Rattle.checking.proofs.inner.check_number.Statement.{statement}
 use Rattle.checking.proofs.inner.check_number.Tie as tie
 

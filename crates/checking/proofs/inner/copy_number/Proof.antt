@@ -4,9 +4,8 @@ use Prim.Native.Nat.{ℕ}
 use native.Mathlib.Omega.{arith}
 use borrow.Author.Needs.{needs}
 use lib.ListN.{length}
-use Rattle.units.specs.Answer.{pick}
 use Rattle.units.specs.Bytes.{part}
-use Rattle.tables.specs.Headers.{Front, Back}
+use Rattle.tables.specs.Headers.{sideOf}
 use Rattle.tables.specs.Check.{copyCheck}
 use Rattle.tables.proofs.ReadCheck.{readCheck}
 use Rattle.checking.proofs.CheckWays.{copy-by, copy-unsigned, copy-other, copy-wrong, copy-array, copy-right}
@@ -15,8 +14,8 @@ use Rattle.checking.proofs.inner.copy_number.Tie as tie
 
 -- the table's check as the definition has it
 by : (c : tie.After-shared-slice-known) (array : ℕ) → let a = c .before .args in
-    readCheck (a .b) (length (a .img .now)) (pick (a .back) Back Front) (a .img .now) (a .at) (part (a .img .now) array 16384)
-    ≡ copyCheck (a .b) (length (a .img .now)) (pick (a .back) Back Front) (part (a .img .now) (a .at) 92) (part (a .img .now) array 16384)
+    readCheck (a .b) (length (a .img .now)) (sideOf (a .back)) (a .img .now) (a .at) (part (a .img .now) array 16384)
+    ≡ copyCheck (a .b) (length (a .img .now)) (sideOf (a .back)) (part (a .img .now) (a .at) 92) (part (a .img .now) array 16384)
 by c array =
     let a = c .before .args in
     copy-by (a .b) _ (a .img .now) (a .at) array (c .before .pre .1 .0) (omega arith) (c .before .pre .1 .1) (λ k. omega (arith, c .shared-slice-known .given k))

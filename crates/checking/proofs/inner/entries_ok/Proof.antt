@@ -1,9 +1,10 @@
 -- `checking::inner::entries_ok` meets its contract. Assumes nothing.
-use mathlib.Core.Path.{_≡_}
+use mathlib.Core.Path.{_≡_, ap}
 use Prim.Native.Nat.{ℕ}
 use native.Mathlib.Omega.{arith}
 use borrow.Author.Needs.{needs}
 use lib.ListN.{length}
+use Rattle.units.specs.declared.Lba.{Lba}
 use Rattle.units.specs.Bytes.{part}
 use Rattle.tables.specs.Checks.{all}
 use Rattle.tables.specs.Entries.{entry, okEntry}
@@ -24,7 +25,7 @@ each-ok-requires c κs = search needs
 -- whether each entry is good, as the code finds it
 each : (c : tie.After-each-ok) → let a = c .before .before .before .before .args in
     c .each-ok .result ≡ all 128 (λ (k : ℕ). okEntry (a .b) (length (a .img .now)) (entry (part (a .img .now) (a .at) 16384) k))
-each c = c .each-ok .ensures _ _ (c .before .before .first-usable .ensures) (c .before .last-usable .ensures)
+each c = c .each-ok .ensures _ _ (ap (λ (l : Lba). l .0) (c .before .before .first-usable .ensures)) (ap (λ (l : Lba). l .0) (c .before .last-usable .ensures))
 
 returns : tie.Need-returns
 returns c = entries-bad _ _ _ (each (c .before)) (c .if1 .taken)

@@ -29,15 +29,16 @@ returns-2 c =
 fitting : (c : tie.Else2) → c .before .before .before .args .self .0 * c .before .before .before .args .b < 2 ^ 64
 fitting c = product _ _ (div-if2 (c .before)) (c .if2 .left)
 
-mul-t7 : tie.Need-mul-t7
-mul-t7 c = record { fits = fitting c }
+place-requires : tie.Need-place-requires
+place-requires c κs = fitting c
 
 returns-3 : tie.Need-returns-3
 unfolding placeOf
 returns-3 c =
-    let a = c .before .before .before .args in
-    rw (← c .before .before .good-block-size .ensures, c .before .if1 .left, lt-leb (2 ^ 64) (a .self .0 * a .b) (fitting c))
+    let e = c .before in
+    let a = e .before .before .before .args in
+    rw (c .place .ensures, ← e .before .before .good-block-size .ensures, e .before .if1 .left, lt-leb (2 ^ 64) (a .self .0 * a .b) (fitting e))
 
 pub place-spec : {M : Type 1} → statement M
 place-spec =
-    tie.close (tie.spec good-block-size-requires returns div-if2 returns-2 mul-t7 returns-3)
+    tie.close (tie.spec good-block-size-requires returns div-if2 returns-2 place-requires returns-3)

@@ -14,11 +14,15 @@ returns c =
     (λ w. rw (le-ltb (a .self .0) 1 (w .0 .left), w .1 .taken))
     (c .if1 .came)
 
+array-place-requires : tie.Need-array-place-requires
+array-place-requires c κs = c .before .if1 .left
+
 returns-2 : tie.Need-returns-2
 unfolding arrayPlaceOf
 returns-2 c =
-    let a = c .before .before .args in
-    rw (le-ltb (a .self .0) 1 (c .before .if1 .left), c .if2 .left)
+    let e = c .before in
+    let a = e .before .before .args in
+    rw (c .array-place .ensures, le-ltb (a .self .0) 1 (e .before .if1 .left), e .if2 .left)
 
 pub array-place-spec : {M : Type 1} → statement M
-array-place-spec = tie.close (tie.spec returns returns-2)
+array-place-spec = tie.close (tie.spec returns array-place-requires returns-2)

@@ -9,12 +9,12 @@ returns : tie.Need-returns
 unfolding slotOf
 returns c = rw (le-leb _ _ (c .if1 .taken))
 
-add-t5 : tie.Need-add-t5
-add-t5 c = search needs
+slot-at-requires : tie.Need-slot-at-requires
+slot-at-requires c κs = search needs
 
 returns-2 : tie.Need-returns-2
 unfolding slotOf
-returns-2 c = rw (lt-leb _ _ (c .if1 .left))
+returns-2 c = rw (c .slot-at .ensures, lt-leb _ _ (c .before .if1 .left))
 
 pub at-array-place-spec : {M : Type 1} → statement M
-at-array-place-spec = tie.close (tie.spec returns add-t5 returns-2)
+at-array-place-spec = tie.close (tie.spec returns slot-at-requires returns-2)

@@ -1,10 +1,10 @@
--- `checking::inner::array_sum` meets its contract. Assumes nothing.
+-- `tables::inner::array_sum` meets its contract. Assumes nothing.
 use mathlib.Core.Path.{ap, _∙_}
 use borrow.Author.Needs.{needs}
 use Rattle.units.proofs.Lists.{lent-part}
 use Rattle.crc32.specs.Crc.{crc}
-use Rattle.checking.proofs.inner.array_sum.Statement.{statement}
-use Rattle.checking.proofs.inner.array_sum.Tie as tie
+use Rattle.tables.proofs.inner.array_sum.Statement.{statement}
+use Rattle.tables.proofs.inner.array_sum.Tie as tie
 
 add-sum : tie.Need-add-sum
 add-sum c = search needs
@@ -22,7 +22,7 @@ sum-requires : tie.Need-sum-requires
 sum-requires c κs = search needs
 
 returns : tie.Need-returns
-returns c = let a = c .before .before .before .args in c .sum .ensures ∙ ap crc (lent-part (a .img .now) (a .at) 16384)
+returns c = let a = c .before .before .before .args in c .sum .ensures ∙ ap crc (lent-part (a .img .now) (a .at .0) 16384)
 
 pub array-sum-spec : {M : Type 1} → statement M
 array-sum-spec =

@@ -1,10 +1,10 @@
--- `checking::inner::verdict_of` meets its contract: the numbers are those of the table of refusals. Assumes nothing.
+-- `tables::inner::verdict_of` meets its contract: the numbers are those of the table of refusals. Assumes nothing.
 use mathlib.Core.Path.{_≡_, sym}
 use native.Mathlib.Omega.{arith}
 use Rattle.tables.specs.Calls.{judged}
-use Rattle.checking.proofs.CheckWays.{judged-number, passed}
-use Rattle.checking.proofs.inner.verdict_of.Statement.{statement}
-use Rattle.checking.proofs.inner.verdict_of.Tie as tie
+use Rattle.tables.proofs.NumberWays.{judged-number, passed}
+use Rattle.tables.proofs.inner.verdict_of.Statement.{statement}
+use Rattle.tables.proofs.inner.verdict_of.Tie as tie
 
 returns : tie.Need-returns
 unfolding judged
