@@ -35,7 +35,7 @@ judged-value : {A : Type 0} (k s : ℕ) (v u : A) → judged k s v ≡ accepted 
 judged-value k s v u e = let q : accepted v ≡ accepted u = sym (judged-none v k s (judged-zero v k s u e)) ∙ e in cc
 
 -- the slots alone
-abbrev slots : List Listed → List ℕ
+abbrev pub slots : List Listed → List ℕ
 slots l = map (λ (e : Listed). e .slot) l
 
 slots-listed : (t : Tables) (l : List ℕ) → slots (map (listed t) l) ≡ l
