@@ -1,17 +1,21 @@
 -- The listing of a card: its present entries, ascending by slot, after the card check. From document 01, "Listing": the card check, then 15.
--- The row that is lent comes with its own form; here are the count, the entries one by one, and the answer for a row of m records. Assumes nothing.
+-- The row that is lent comes with its own form; here are the count, the entries one by one in three ways of asking, and the answer for a row of m records.
+-- Assumes nothing.
+use mathlib.Core.Bool.{not}
 use mathlib.Core.List.{List, map}
 use Prim.Native.Nat.{ℕ, _-_}
 use lib.Dec.{ltb}
 use lib.ListN.{length, take, drop}
 use Rattle.units.specs.Answer.{Answer}
+use Rattle.units.specs.Bytes.{allZero}
 use Rattle.partition.specs.declared.Partition.{Partition}
 use Rattle.partition.specs.Format.{entryAt}
-use Rattle.partition.specs.Array.{entryPlace, presentFrom}
+use Rattle.partition.specs.Array.{Found, entryPlace, presentFrom}
 use Rattle.tables.specs.Checks.{when, orElse}
 use Rattle.tables.specs.Lens.{Tables, tables}
+use Rattle.tables.specs.Entries.{entry}
 use Rattle.tables.specs.Check.{check}
-use Rattle.tables.specs.Calls.{judged}
+use Rattle.tables.specs.Calls.{judged, clearNumber}
 
 -- the slots of the present entries, ascending
 unfoldable pub presentSlots : Tables → List ℕ
@@ -29,11 +33,17 @@ listed t s = record { slot = s; partition = entryAt (t .front .array) (entryPlac
 abbrev pub countAnswer : ℕ → List ℕ → Answer ℕ
 countAnswer B xs = judged (check B (length xs) (tables B xs)) 0 (length (presentSlots (tables B xs)))
 
--- the slot of present entry k, counted from 0, alone in a list; no slot where k is not below the count
-abbrev pub slotAnswer : ℕ → List ℕ → ℕ → Answer (List ℕ)
-slotAnswer B xs k = judged (check B (length xs) (tables B xs)) 0 (take 1 (drop k (presentSlots (tables B xs))))
+-- the first present slot after a slot, alone in a list, or none; slot 0 stands before the first
+abbrev pub nextAnswer : ℕ → List ℕ → ℕ → Answer (List ℕ)
+nextAnswer B xs after = judged (check B (length xs) (tables B xs)) 0 (take 1 (presentFrom (tables B xs .front .array) 0 after (128 - after)))
 
--- the same with its record
+-- what slot s holds: 18 after the check, as in clear
+abbrev pub slotRead : ℕ → List ℕ → ℕ → Answer Found
+slotRead B xs s =
+    judged (clearNumber B (length xs) (tables B xs) s) 0
+    (record { present = not (allZero (entry (tables B xs .front .array) (s - 1))); partition = entryAt (tables B xs .front .array) (entryPlace 0 (s - 1)) })
+
+-- present entry k, counted from 0, with its slot and its record, alone in a list; none where k is not below the count
 abbrev pub nthAnswer : ℕ → List ℕ → ℕ → Answer (List Listed)
 nthAnswer B xs k = judged (check B (length xs) (tables B xs)) 0 (map (listed (tables B xs)) (take 1 (drop k (presentSlots (tables B xs)))))
 

@@ -1,0 +1,3 @@
+-- The ways out of the listing's calls, and that the ways of asking agree.
+pub mod Ways
+pub mod Agree

@@ -1,0 +1,2 @@
+-- What the answers of `listing` mean.
+pub mod Meanings

@@ -1,0 +1,94 @@
+// Leaves for our own crates: each `requires` is what its caller has tested. Room for two tables is all that they need to stay inside the image; that the card
+// passes the check is for the caller to know. No public calls.
+use crate::UsedRead;
+use partition::Partition;
+use units::Slot;
+use units::Verdict;
+ghost use mathlib.Core.Path.{_≡_};
+ghost use mathlib.Core.Bool.{false};
+ghost use Prim.Native.Nat.{_+_, _-_, _≤_};
+ghost use lib.ListN.{length, getD};
+ghost use Rattle.partition.specs.Format.{entryAt, zeroPartition};
+ghost use Rattle.partition.specs.Array.{entryPlace, present, firstSlot};
+ghost use Rattle.tables.specs.Lens.{tables};
+ghost use Rattle.tables.specs.Check.{roomCheck};
+ghost use Rattle.tables.specs.Calls.{badSlot};
+ghost use Rattle.tables.specs.Listing.{presentSlots};
+
+// The byte place of the front array, in block 2.
+fn array_at(b: u64) -> usize
+    requires { ⌜ b ≤ 4096 ⌝ }
+    ensures { λ r. ⌜ r ≡ b + b ⌝ }
+{
+    (b + b) as usize
+}
+
+// The byte place of a slot's entry in the front array.
+fn slot_at(b: u64, slot: u32) -> usize
+    requires { ⌜ (b ≤ 4096) × (badSlot slot ≡ false) ⌝ }
+    ensures { λ r. ⌜ r ≡ entryPlace (b + b) (slot - 1) ⌝ }
+{
+    array_at(b) + (slot as usize - 1) * 128
+}
+
+// How many slots are used.
+pub fn used_count(img: &[u8], b: u64) -> u32
+    requires { ⌜ roomCheck b (length (now img)) ≡ 0 ⌝ }
+    ensures { λ r. ⌜ r ≡ length (presentSlots (tables b (now (img .entry)))) ⌝ }
+{
+    partition::inner::count_present(img, array_at(b), 128)
+}
+
+// The first used slot after a slot; 0 where there is none.
+pub fn used_after(img: &[u8], b: u64, after: u32) -> u32
+    requires { ⌜ roomCheck b (length (now img)) ≡ 0 ⌝ }
+    ensures { λ r. ⌜ r ≡ firstSlot (tables b (now (img .entry)) .front .array) 0 128 after ⌝ }
+{
+    partition::inner::next_present(img, array_at(b), 128, after)
+}
+
+// Used slot k, counted from 0; 0 where k is not below the count.
+pub fn nth_slot(img: &[u8], b: u64, k: u32) -> u32
+    requires { ⌜ roomCheck b (length (now img)) ≡ 0 ⌝ }
+    ensures { λ r. ⌜ r ≡ getD (presentSlots (tables b (now (img .entry)))) k 0 ⌝ }
+{
+    let mut after = 0;
+    let mut i = 0;
+    while i < k {
+        let next = used_after(img, b, after);
+        if next == 0 {
+            return 0;
+        }
+        after = next;
+        i += 1;
+    }
+    used_after(img, b, after)
+}
+
+// Whether a slot's entry is present.
+pub fn slot_present(img: &[u8], b: u64, slot: u32) -> bool
+    requires { ⌜ (roomCheck b (length (now img)) ≡ 0) × (badSlot slot ≡ false) ⌝ }
+    ensures { λ r. ⌜ r ≡ present (tables b (now (img .entry)) .front .array) 0 (slot - 1) ⌝ }
+{
+    partition::inner::is_present(img, slot_at(b, slot))
+}
+
+// A slot's record.
+pub fn slot_entry(img: &[u8], b: u64, slot: u32) -> Partition
+    requires { ⌜ (roomCheck b (length (now img)) ≡ 0) × (badSlot slot ≡ false) ⌝ }
+    ensures { λ r. ⌜ r ≡ entryAt (tables b (now (img .entry)) .front .array) (entryPlace 0 (slot - 1)) ⌝ }
+{
+    partition::inner::entry_at(img, slot_at(b, slot))
+}
+
+// The answer where no used slot was found: slot 0 and the zero record.
+pub fn none_used(verdict: Verdict) -> UsedRead
+    ensures { λ r. ⌜ r ≡ record { verdict = verdict; found = false; slot = record { 0 = 0 }; partition = zeroPartition } ⌝ }
+{
+    UsedRead {
+        verdict,
+        found: false,
+        slot: Slot(0),
+        partition: Partition::zero(),
+    }
+}
