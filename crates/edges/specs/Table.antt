@@ -16,9 +16,9 @@ use Rattle.units.specs.Guids.{guidAt, nilGuid}
 use Rattle.units.specs.Places.{goodSize}
 use Rattle.units.proofs.Laws.{same-true, and-both}
 use Rattle.header.specs.declared.Header.{Header}
-use Rattle.header.specs.declared.builder.HeaderBuilder.{HeaderBuilder}
+use Rattle.builder.specs.declared.HeaderBuilder.{HeaderBuilder}
 use Rattle.header.specs.Reading.{backupBlock}
-use Rattle.header.specs.Building.{newBuilder, withPrimary, withBackupLba, withLastUsable, withNumParts, withPartSize, builtWith, built}
+use Rattle.builder.specs.Building.{newBuilder, withPrimary, withBackupLba, withLastUsable, withNumParts, withPartSize, builtWith, built}
 use Rattle.partition.specs.Lengths.{sectorsLen}
 use Rattle.mbr.specs.Format.{recordBytes, zeroRecord, fresh}
 

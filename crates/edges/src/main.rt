@@ -1,6 +1,6 @@
 // Runs document 01's cases at the edges, P1 to P14, on the code, and prints what each call answers.
-use header::builder::HeaderBuilder;
-use header::builder::HeaderBuilt;
+use builder::HeaderBuilder;
+use builder::HeaderBuilt;
 use libc::STDOUT_FILENO;
 use mbr::ProtectiveMbr;
 use mbr::RecordRead;

@@ -2,5 +2,4 @@
 pub mod Format
 pub mod Reading
 pub mod Writing
-pub mod Building
 pub mod Meanings

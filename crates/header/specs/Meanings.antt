@@ -11,8 +11,6 @@ use Rattle.header.specs.declared.HeaderWritten.{HeaderWritten}
 use Rattle.header.specs.declared.HeaderWritten.the-variants as done
 use Rattle.header.specs.declared.SumFound.{SumFound}
 use Rattle.header.specs.declared.SumFound.the-variants as sum
-use Rattle.header.specs.declared.builder.HeaderBuilt.{HeaderBuilt}
-use Rattle.header.specs.declared.builder.HeaderBuilt.the-variants as built
 use Rattle.header.specs.Writing.{Written}
 
 abbrev pub readMeans : HeaderRead → Answer Header
@@ -26,10 +24,6 @@ writtenMeans (done.Refused w) = refusedBy w
 abbrev pub sumMeans : SumFound → Answer ℕ
 sumMeans (sum.Sum x) = accepted x
 sumMeans (sum.Refused w) = refusedBy w
-
-abbrev pub builtMeans : HeaderBuilt → Answer Header
-builtMeans (built.Built h) = accepted h
-builtMeans (built.Refused w) = refusedBy w
 
 -- ---- each answer comes back from its meaning
 
@@ -58,10 +52,3 @@ sum-back (sum.Refused w) = ap sum.Refused (back w)
 
 pub sum-one : (r s : SumFound) → sumMeans r ≡ sumMeans s → r ≡ s
 sum-one = one-meaning sumMeans (madeBy sum.Sum sum.Refused) sum-back
-
-built-back : (r : HeaderBuilt) → madeBy built.Built built.Refused (builtMeans r) ≡ r
-built-back (built.Built h) = refl
-built-back (built.Refused w) = ap built.Refused (back w)
-
-pub built-one : (r s : HeaderBuilt) → builtMeans r ≡ builtMeans s → r ≡ s
-built-one = one-meaning builtMeans (madeBy built.Built built.Refused) built-back

@@ -1,6 +1,5 @@
-// The GPT header: read from an image, and written to it as one whole block with new check sums. `builder` makes new ones.
+// The GPT header: read from an image, and written to it as one whole block with new check sums. Crate `builder` makes new ones.
 // Here stand the public calls: each takes every image and every number. `inner` has the leaves for our own crates.
-pub mod builder;
 pub mod inner;
 
 use units::BlockFound;

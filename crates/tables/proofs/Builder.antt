@@ -13,11 +13,11 @@ use Rattle.units.specs.Guids.{guidBytes}
 use Rattle.crc32.specs.Crc.{crc}
 use Rattle.crc32.specs.HeaderSum.{blanked, headerSum}
 use Rattle.header.specs.declared.Header.{Header}
-use Rattle.header.specs.declared.builder.HeaderBuilder.{HeaderBuilder}
+use Rattle.builder.specs.declared.HeaderBuilder.{HeaderBuilder}
 use Rattle.header.specs.Format.{headerBytes}
 use Rattle.header.specs.Writing.{stored, summed, withSums, headerBlock}
-use Rattle.header.specs.Building.{newBuilder, withPrimary, withBackupLba, greater, headerOf, builtWith, built}
-use Rattle.header.proofs.BuilderLaws.{firstOf, lastOf, startOf, built-with, with-header, header-same}
+use Rattle.builder.specs.Building.{newBuilder, withPrimary, withBackupLba, greater, headerOf, builtWith, built}
+use Rattle.builder.proofs.Laws.{firstOf, lastOf, startOf, built-with, with-header, header-same}
 use Rattle.tables.specs.Places.{blocks, arrayBlocks, firstUsable, lastUsable}
 use Rattle.tables.specs.Entries.{zeros}
 use Rattle.tables.specs.Headers.{Side, Front, Back, kind, ground, shape, header, sealed, copyOf, cardHeader}

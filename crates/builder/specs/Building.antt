@@ -6,8 +6,8 @@ use Rattle.units.specs.declared.Lba.{Lba}
 use Rattle.units.specs.declared.Guid.{Guid}
 use Rattle.units.specs.Answer.{Answer, accepted, refuse, pick}
 use Rattle.units.specs.Places.{goodSize}
 use Rattle.header.specs.declared.Header.{Header}
-use Rattle.header.specs.declared.builder.HeaderBuilder.{HeaderBuilder}
+use Rattle.builder.specs.declared.HeaderBuilder.{HeaderBuilder}
 
 -- a primary header at block 1, the backup not set, 128 entries of 128 bytes
 abbrev pub newBuilder : Guid → HeaderBuilder

@@ -1,9 +1,9 @@
--- `header::builder::HeaderBuilder::from_header` meets its contract. Assumes nothing.
+-- `builder::HeaderBuilder::from_header` meets its contract. Assumes nothing.
 use borrow.Author.Needs.{needs}
 use Rattle.units.proofs.Laws.{tests}
-use Rattle.header.specs.Building.{ofHeader}
-use Rattle.header.proofs.builder.HeaderBuilder.from_header.Statement.{statement}
-use Rattle.header.proofs.builder.HeaderBuilder.from_header.Tie as tie
+use Rattle.builder.specs.Building.{ofHeader}
+use Rattle.builder.proofs.HeaderBuilder.from_header.Statement.{statement}
+use Rattle.builder.proofs.HeaderBuilder.from_header.Tie as tie
 
 sides-requires : tie.Need-sides-requires
 sides-requires c κs = search needs

@@ -1,7 +1,7 @@
--- `header::builder::header_of` meets its contract. Assumes nothing.
+-- `builder::header_of` meets its contract. Assumes nothing.
 use borrow.Author.Tests.{not-true, not-false}
-use Rattle.header.proofs.builder.header_of.Statement.{statement}
-use Rattle.header.proofs.builder.header_of.Tie as tie
+use Rattle.builder.proofs.header_of.Statement.{statement}
+use Rattle.builder.proofs.header_of.Tie as tie
 
 returns : tie.Need-returns
 returns c = rw (not-true (c .before .before .before .before .before .before .before .args .s .primary) (c .before .before .if1 .taken))

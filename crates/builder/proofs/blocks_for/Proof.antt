@@ -1,9 +1,9 @@
--- `header::builder::blocks_for` meets its contract. Assumes nothing.
+-- `builder::blocks_for` meets its contract. Assumes nothing.
 use mathlib.Core.Path.{refl}
 use borrow.Author.Needs.{needs}
-use Rattle.header.proofs.BuilderLaws.{few-blocks}
-use Rattle.header.proofs.builder.blocks_for.Statement.{statement}
-use Rattle.header.proofs.builder.blocks_for.Tie as tie
+use Rattle.builder.proofs.Laws.{few-blocks}
+use Rattle.builder.proofs.blocks_for.Statement.{statement}
+use Rattle.builder.proofs.blocks_for.Tie as tie
 
 sub-result : tie.Need-sub-result
 sub-result c = search needs

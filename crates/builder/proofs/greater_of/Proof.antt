@@ -1,7 +1,7 @@
--- `header::builder::greater_of` meets its contract. Assumes nothing.
+-- `builder::greater_of` meets its contract. Assumes nothing.
 use Rattle.units.proofs.Laws.{tests}
-use Rattle.header.proofs.builder.greater_of.Statement.{statement}
-use Rattle.header.proofs.builder.greater_of.Tie as tie
+use Rattle.builder.proofs.greater_of.Statement.{statement}
+use Rattle.builder.proofs.greater_of.Tie as tie
 
 returns : tie.Need-returns
 returns c = search tests

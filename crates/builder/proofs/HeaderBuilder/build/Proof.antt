@@ -1,15 +1,15 @@
--- `header::builder::HeaderBuilder::build` meets its contract: one law for each way out. Assumes nothing.
+-- `builder::HeaderBuilder::build` meets its contract: one law for each way out. Assumes nothing.
 use mathlib.Core.Path.{_≡_, sym, ap, _∙_}
 use Prim.Native.Nat.{ℕ, _+_, _*_, _-_, _^_, _≤_, _<_}
 use native.Mathlib.Omega.{arith}
 use borrow.Author.Needs.{needs}
 use Rattle.units.specs.Answer.{accepted}
-use Rattle.header.specs.declared.builder.HeaderBuilder.{HeaderBuilder}
-use Rattle.header.specs.Building.{beforeArray, built, builtWith}
+use Rattle.builder.specs.declared.HeaderBuilder.{HeaderBuilder}
+use Rattle.builder.specs.Building.{beforeArray, built, builtWith}
 use Rattle.units.proofs.Laws.{size-past, product-32}
-use Rattle.header.proofs.BuilderLaws.{firstOf, lastOf, startOf, header-same, built-1, built-9, built-3, built-with, with-early, with-none, with-far, with-header}
-use Rattle.header.proofs.builder.HeaderBuilder.build.Statement.{statement}
-use Rattle.header.proofs.builder.HeaderBuilder.build.Tie as tie
+use Rattle.builder.proofs.Laws.{firstOf, lastOf, startOf, header-same, built-1, built-9, built-3, built-with, with-early, with-none, with-far, with-header}
+use Rattle.builder.proofs.HeaderBuilder.build.Statement.{statement}
+use Rattle.builder.proofs.HeaderBuilder.build.Tie as tie
 
 good-block-size-requires : tie.Need-good-block-size-requires
 good-block-size-requires c κs = search needs

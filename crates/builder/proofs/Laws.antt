@@ -12,9 +12,9 @@ use Rattle.units.specs.declared.Lba.{Lba}
 use Rattle.units.specs.Answer.{Answer, accepted, refuse, pick}
 use Rattle.units.specs.Places.{goodSize}
 use Rattle.units.proofs.Laws.{good-size}
 use Rattle.header.specs.declared.Header.{Header}
-use Rattle.header.specs.declared.builder.HeaderBuilder.{HeaderBuilder}
-use Rattle.header.specs.Building.{ofHeader, sidesOf, withPrimary, withFirstUsable, withLastUsable, greater, blocksFor, beforeArray, headerOf, builtWith, built}
+use Rattle.builder.specs.declared.HeaderBuilder.{HeaderBuilder}
+use Rattle.builder.specs.Building.{ofHeader, sidesOf, withPrimary, withFirstUsable, withLastUsable, greater, blocksFor, beforeArray, headerOf, builtWith, built}
 
 -- the parts of a built header that are computed: the array's blocks, the first and the last usable block over p blocks, and where the array starts
 abbrev pub arrayBlocks : HeaderBuilder → ℕ → ℕ

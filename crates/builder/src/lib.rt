@@ -1,13 +1,13 @@
-// The header builder, by value: what each setter gives, and the header that a builder builds.
-use crate::Header;
-use crate::Revision;
+// The header builder: what each setter gives, and the header that a builder builds.
+use header::Header;
+use header::Revision;
 use units::Guid;
 use units::Lba;
 use units::Refusal;
 ghost use mathlib.Core.Path.{_≡_};
 ghost use Prim.Native.Nat.{_+_, _<_, _≤_, _^_};
-ghost use Rattle.header.specs.Building.{newBuilder, ofHeader, withPrimary, withDiskGuid, withBackupLba, withFirstUsable, withLastUsable, withNumParts, withPartSize, built, greater, blocksFor, sidesOf, beforeArray, headerOf};
-ghost use Rattle.header.specs.Meanings.{builtMeans};
+ghost use Rattle.builder.specs.Building.{newBuilder, ofHeader, withPrimary, withDiskGuid, withBackupLba, withFirstUsable, withLastUsable, withNumParts, withPartSize, built, greater, blocksFor, sidesOf, beforeArray, headerOf};
+ghost use Rattle.builder.specs.Meanings.{builtMeans};
 
 // What a header is built from. An entry count or size that is never set is 128, a backup that is never set is 0.
 pub struct HeaderBuilder {
