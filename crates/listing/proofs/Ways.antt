@@ -61,18 +61,12 @@ module _ (B : ℕ) (xs : List ℕ) (h : roomCheck B (length xs) ≡ 0) where
   room : Room B (length xs)
   room = room-ok B (length xs) h
 
-  pub size-most : B ≤ 4096
-  size-most = room .most
-
   array-end : B + B + 16384 ≤ length xs
   array-end = omega (arith, room .low, room .seam, room .top)
 
   pub array-inside : {at : ℕ} → at ≡ B + B → insideOrEmpty (length xs) at (128 * 128) ≡ true
   unfolding insideOrEmpty inside
   array-inside e = rw (e, le-leb (B + B + 16384) (length xs) array-end)
-
-  pub entry-inside : {at : ℕ} (s : ℕ) → badSlot s ≡ false → at ≡ entryPlace (B + B) (s - 1) → at + 128 ≤ length xs
-  entry-inside s k e = omega (arith, array-end, slot-ok s k .1, e)
 
 module _ (B : ℕ) (xs : List ℕ) {at : ℕ} where
   pub counted : {r : ℕ} → at ≡ B + B → r ≡ length (presentFrom xs at 0 128) → r ≡ length (presentSlots (tables B xs))
@@ -81,12 +75,15 @@ module _ (B : ℕ) (xs : List ℕ) {at : ℕ} where
   pub next-found : {r : ℕ} (after : ℕ) → at ≡ B + B → r ≡ firstSlot xs at 128 after → r ≡ firstSlot (tables B xs .front .array) 0 128 after
   next-found after e q = q ∙ ap (λ (j : ℕ). firstSlot xs j 128 after) e ∙ sym (first-in-image B (length xs) xs after)
 
-  module _ (s : ℕ) (k : badSlot s ≡ false) (e : at ≡ entryPlace (B + B) (s - 1)) where
+  module _ (s : ℕ) (k : badSlot s ≡ false) (e : at ≡ B + B + 128 * (s - 1)) where
+    place : at ≡ entryPlace (B + B) (s - 1)
+    place = omega (arith, e)
+
     pub present-read : {r : Bool} → r ≡ not (allZero (part xs at 128)) → r ≡ present (tables B xs .front .array) 0 (s - 1)
-    present-read q = q ∙ ap (λ (j : ℕ). not (allZero (part xs j 128))) e ∙ sym (present-in-image B (length xs) xs (s - 1) (slot-ok s k .1))
+    present-read q = q ∙ ap (λ (j : ℕ). not (allZero (part xs j 128))) place ∙ sym (present-in-image B (length xs) xs (s - 1) (slot-ok s k .1))
 
     pub entry-read : {r : Partition} → r ≡ entryAt xs at → r ≡ entryAt (tables B xs .front .array) (entryPlace 0 (s - 1))
-    entry-read q = q ∙ ap (λ (j : ℕ). entryAt xs j) e ∙ sym (entry-in-image B (length xs) xs (s - 1) (slot-ok s k .1))
+    entry-read q = q ∙ ap (λ (j : ℕ). entryAt xs j) place ∙ sym (entry-in-image B (length xs) xs (s - 1) (slot-ok s k .1))
 
 -- ---- the loop: i used slots are passed, and those after the last of them are left
 
