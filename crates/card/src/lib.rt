@@ -5,6 +5,10 @@ mod laying; // laying.rt: what lay stores
 mod paying; // paying.rt: what a payload write tests and stores
 
 pub use checking::check;
+pub use listing::count_used;
+pub use listing::next_used;
+pub use listing::nth_used;
+pub use listing::read_slot;
 use partition::Partition;
 use units::BytePlace;
 use units::Guid;
