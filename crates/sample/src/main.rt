@@ -69,8 +69,12 @@ fn fill(img: &mut [u8]) {
 // Writes the card if it holds its three slots.
 fn write(img: &[u8]) {
     match card::count_used(img, 512) {
-        PartitionCount::Present(3) => io::write_all(STDOUT_FILENO, img),
-        _ => io::write_all(STDERR_FILENO, b"sample: a call was refused\n"),
+        PartitionCount::Present(3) => {
+            io::write_all(STDOUT_FILENO, img);
+        }
+        _ => {
+            io::write_all(STDERR_FILENO, b"sample: a call was refused\n");
+        }
     }
 }
 

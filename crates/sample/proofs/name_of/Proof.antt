@@ -1,0 +1,56 @@
+use borrow.Author.Needs.{needs}
+use Rattle.sample.proofs.name_of.Statement.{statement}
+use Rattle.sample.proofs.name_of.Tie as tie
+
+abbrev Inv-loop : tie.InvT-loop
+Inv-loop text n name₀ i₀ name i = ?
+
+abbrev μ-loop : tie.MeasureT-loop
+μ-loop text n name₀ i₀ name i = ?
+
+shorter-requires : tie.Need-shorter-requires Inv-loop μ-loop
+shorter-requires c κs = search needs
+
+loop-holds : tie.Need-loop-holds Inv-loop μ-loop
+loop-holds c = search needs
+
+shared-slice-read-name : tie.Need-shared-slice-read-name Inv-loop μ-loop
+shared-slice-read-name c = search needs
+
+cast-name : tie.Need-cast-name Inv-loop μ-loop
+cast-name c = search needs
+
+mul-name : tie.Need-mul-name Inv-loop μ-loop
+mul-name c = search needs
+
+array-write-name : tie.Need-array-write-name Inv-loop μ-loop
+array-write-name c = search needs
+
+add-i : tie.Need-add-i Inv-loop μ-loop
+add-i c = search needs
+
+loop-less : tie.Need-loop-less Inv-loop μ-loop
+loop-less c = search needs
+
+loop-again : tie.Need-loop-again Inv-loop μ-loop
+loop-again c = search needs
+
+returns : tie.Need-returns Inv-loop μ-loop
+returns c = search needs
+
+pub name-of-spec : {M : Type 1} → statement M
+name-of-spec =
+    tie.close
+    (tie.spec
+    Inv-loop
+    μ-loop
+    shorter-requires
+    loop-holds
+    shared-slice-read-name
+    cast-name
+    mul-name
+    array-write-name
+    add-i
+    loop-less
+    loop-again
+    returns)
