@@ -144,3 +144,89 @@ module _ (xs : List ℕ) (p : Plan) (s : Slot) (l : Lies xs p) (i : InArray p s)
   pub entry-read : {a : ℕ} {q : Partition} → a ≡ entryPlace (p .place .0) (s .0 - 1) → q ≡ entryAt xs a → record { slot = s; partition = q } ≡ entryBy xs p s
   unfolding entryOf
   entry-read {a} {q} e f = let g : q ≡ entryAt xs (entryPlace (p .place .0) (s .0 - 1)) = f ∙ ap (λ (k : ℕ). entryAt xs k) e in ap (λ (k : Partition). record { slot = s; partition = k }) g
+
+-- ---- the entries that are left after a slot, one by one
+
+-- a slot that is present comes before those after it
+from-step : (xs : List ℕ) (at j k n : ℕ) → length (presentFrom xs at k n) ≡ suc j
+    → let s : ℕ = getD (presentFrom xs at k n) 0 0 in (presentFrom xs at k n ≡ s ∷ presentFrom xs at s (k + n - s)) × (k < s) × (s ≤ k + n)
+unfolding presentFrom
+from-step xs at j k zero e = absurd (let z : _≡_ {A = ℕ} 0 (suc j) = e in omega arith)
+from-step xs at j k (suc n) e = go (present xs at k) e (from-step xs at j (k + 1) n)
+  where
+    l : List ℕ
+    l = presentFrom xs at (k + 1) n
+
+    -- the first of a list, and what is past it
+    First : ℕ → List ℕ → Type 0
+    First i m = let s : ℕ = getD m 0 0 in (m ≡ s ∷ presentFrom xs at s (k + suc n - s)) × (i < s) × (s ≤ k + suc n)
+
+    go : (t : Bool) → length (pick t ((k + 1) ∷ l) l) ≡ suc j
+        → (length l ≡ suc j → (l ≡ getD l 0 0 ∷ presentFrom xs at (getD l 0 0) (k + 1 + n - getD l 0 0)) × (k + 1 < getD l 0 0) × (getD l 0 0 ≤ k + 1 + n))
+        → First k (pick t ((k + 1) ∷ l) l)
+    go true f g =
+        let m : k + suc n - (k + 1) ≡ n = omega arith in
+        (ap (λ (i : ℕ). (k + 1) ∷ presentFrom xs at (k + 1) i) (sym m), omega arith, omega arith)
+    go false f g =
+        let r = g f in
+        let m : k + 1 + n ≡ k + suc n = omega arith in
+        (rw m at (r .0), omega (arith, r .1), omega (arith, r .2))
+
+module _ (xs : List ℕ) (p : Plan) where
+  -- the present entries after slot s
+  unfoldable pub left : Slot → List Entry
+  left s = map (entryOf xs (p .place .0)) (presentFrom xs (p .place .0) (s .0) (p .entries - s .0))
+
+  -- slot 0 stands before the first
+  pub left-all : left (record { 0 = 0 }) ≡ entriesBy xs p
+  unfolding left entriesBy presentEntries
+  left-all = rw sub-zero
+
+  -- where any are left, the next slot is one of the array's, and its entry is the first of them
+  pub left-step : (s : Slot) (j : ℕ) → length (left s) ≡ suc j
+      → InArray p (slotAfter xs p s) × (left s ≡ entryBy xs p (slotAfter xs p s) ∷ left (slotAfter xs p s))
+  unfolding left slotAfter firstSlot
+  left-step s j e =
+      let at : ℕ = p .place .0 in
+      let n : ℕ = p .entries - s .0 in
+      let f : length (presentFrom xs at (s .0) n) ≡ suc j = sym (length-map (entryOf xs at) (presentFrom xs at (s .0) n)) ∙ e in
+      let r = from-step xs at j (s .0) n f in
+      let t : ℕ = getD (presentFrom xs at (s .0) n) 0 0 in
+      let m : s .0 + n - t ≡ p .entries - t = omega (arith, r .1, r .2) in
+      ((omega (arith, r .1), omega (arith, r .1, r .2)), ap (map (entryOf xs at)) (r .0 ∙ ap (λ (i : ℕ). t ∷ presentFrom xs at t i) m))
+
+-- ---- the row at the end
+
+-- what a plan and its row come to
+row-by : (xs : List ℕ) (q : Plan) (row : List Entry) → Made xs q → {a : Answer ℕ} {ys : List Entry}
+    → a ≡ countBy q → ys ≡ entriesBy xs q ++ drop (length (entriesBy xs q)) row → RowEnds (rowOutcome (planned xs q) row) a ys
+unfolding countBy planned rowOutcome entriesBy
+row-by xs q row d {a} {ys} e f = go (verdictMeans (q .verdict)) refl
+  where
+    es : List Entry
+    es = entriesBy xs q
+
+    go : (v : Answer Unit) → verdictMeans (q .verdict) ≡ v → RowEnds (rowOutcome (andThen (verdictMeans (q .verdict)) (λ u. accepted es)) row) a ys
+    go (accepted u) g = rw g (record { answer = (rw g at e) ∙ ap accepted (d .counted); row = f })
+    go (refused w) g =
+        let n : es ≡ [] = no-entries xs (q .place .0) (q .entries) (d .idle g) in
+        rw g (record { answer = rw g at e; row = rw n at f })
+
+pub row-ends : (xs : List ℕ) (p : Plan) (row : List Entry) → Made xs p → {q : Plan} {a : Answer ℕ} {ys : List Entry}
+    → q ≡ planWithin (length row) p → a ≡ countBy q → ys ≡ entriesBy xs q ++ drop (length (entriesBy xs q)) row
+    → RowEnds (rowOutcome (roomed (length row) (planned xs p)) row) a ys
+row-ends xs p row d {q} e f g =
+    let m : Made xs q = rw e (made-within (length row) p xs d) in
+    let s : planned xs q ≡ roomed (length row) (planned xs p) = ap (planned xs) e ∙ planned-within (length row) p xs d in
+    rw (← s) (row-by xs q row m f g)
+
+-- ---- the header's array: what is found before a row is lent, with the row's 15
+pub found-within : (xs : List ℕ) (h : Header) (b m : ℕ) → roomed m (entriesFound xs h b) ≡ partitionsRead xs h b m
+unfolding roomed entriesFound partitionsRead
+found-within xs h b m = go (arrayFound xs h b)
+  where
+    go : (a : Answer BytePlace)
+        → andThen (andThen a (λ at. accepted (presentEntries xs (at .0) (h .«num_parts»)))) (λ es. pick (ltb m (length es)) (refuse 15) (accepted es))
+        ≡ andThen a (λ at. pick (ltb m (length (presentFrom xs (at .0) 0 (h .«num_parts»)))) (refuse 15) (accepted (presentEntries xs (at .0) (h .«num_parts»))))
+    go (refused w) = refl
+    go (accepted at) = rw (length-present xs (at .0) (h .«num_parts»))
