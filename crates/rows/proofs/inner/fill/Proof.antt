@@ -6,7 +6,7 @@ use mathlib.Core.WellFounded.{WellFounded, InvImage·wf}
 use Prim.Native.Nat.{ℕ, zero, suc, _+_, _*_, _<_, _≤_, _^_}
 use native.Mathlib.Nat.{add-zero, zero-add, lt-suc-self, lt-irrefl, not-suc-le-zero, le-of-suc-le-suc}
 use native.Mathlib.Omega.{arith}
-use mathlib.Core.List.{List, [], _∷_, _++_}
+use mathlib.Core.List.{List, [], _∷_, _++_, append-assoc}
 use lib.ListN.{length, set, drop as dropL, length-append, length-set}
 use lib.WfN.{Nat·lt-wfRel}
 use lib.Dec.{T as Holds, ltb, lt→ltb, ltb→lt, lit<}
@@ -106,10 +106,6 @@ size = 136
 
 bytes-fit : (i m : ℕ) → i < m → m * size < 2 ^ 63 → i * size < 2 ^ 64
 bytes-fit i m a b = omega (arith, a, b)
-
-app-assoc : {X : Type 0} (a b c : List X) → (a ++ b) ++ c ≡ a ++ (b ++ c)
-app-assoc [] b c = refl
-app-assoc (x ∷ a) b c = ap (λ l. x ∷ l) (app-assoc a b c)
 
 set-at : {X : Type 0} (a : List X) (x y : X) (c : List X) → set (a ++ (x ∷ c)) (length a) y ≡ (a ++ (y ∷ [])) ++ c
 set-at [] x y c = refl
@@ -409,7 +405,7 @@ module _ {M : Type 1} (𝓤 : URA M) (H : Heap 𝓤) (A : Atoms 𝓤) (W : Given
             enough = le-of-suc-le-suc enough;
             len = ap length (sym (set-at pre z y zs)) ∙ length-set (pre ++ (z ∷ zs)) (length pre) y ∙ len;
             some-left = omega (arith, some-left, ap length (step .1));
-            same = app-assoc pre (y ∷ []) (left img r (slotAfter img r t) ++ dropL k zs) ∙ ap (λ (l : List Entry). pre ++ (l ++ dropL k zs)) (sym (step .1)) ∙ same;
+            same = append-assoc pre (y ∷ []) (left img r (slotAfter img r t) ++ dropL k zs) ∙ ap (λ (l : List Entry). pre ++ (l ++ dropL k zs)) (sym (step .1)) ∙ same;
           })
           (omega (arith, sum)) (omega (arith, length-append pre (z ∷ zs))) len (lt-suc-self k) (step .0) (sym (set-at pre z y zs)) (one-more pre y) refl
         where
