@@ -81,12 +81,13 @@ impl Plan {
         }
     }
 
-    // Where the entry in a slot of the array stands.
+    // Where the entry in a slot of the array stands: slots count from 1, array places from 0.
     pub fn entry_place(self, s: Slot) -> BytePlace
         requires { ⌜ InArray self s × (self .place .0 + self .entries * 128 < 2 ^ 64) ⌝ }
         ensures { λ r. ⌜ r .0 ≡ entryPlace (self .place .0) (s .0 - 1) ⌝ }
     {
-        BytePlace(self.place.0 + (s.0 as usize - 1) * 128)
+        let k = s.0 - 1;
+        BytePlace(self.place.0 + (k as usize) * 128)
     }
 }
 
