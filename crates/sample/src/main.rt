@@ -1,6 +1,5 @@
 // Writes a sample card of 128 blocks of 512 bytes to standard output: laid, with a map, its roads and notes in slots 1 to 3.
 // The file `stdout` beside the folder `src` was made by tests/example/make_card.py, which shares no code with this library.
-ghost use Prim.Native.Nat.{_≤_};
 use libc::STDERR_FILENO;
 use libc::STDOUT_FILENO;
 use partition::Partition;
@@ -30,28 +29,31 @@ fn basic_data() -> Guid {
     }
 }
 
-fn shorter(a: usize, b: usize) -> usize
-    ensures { λ r. ⌜ (r ≤ a) × (r ≤ b) ⌝ }
-{
-    if a < b { a } else { b }
+fn wide(letter: u8) -> u16 {
+    letter as u16
 }
 
-// The units of a name of ASCII letters, cut at 36.
+// Unit i of a name of ASCII letters: 0 after its end.
+fn unit_of(text: &[u8], i: usize) -> u16 {
+    if i < text.len() { wide(text[i]) } else { 0 }
+}
+
+// The units of a name, cut at 36.
 fn name_of(text: &[u8]) -> [u16; 36] {
-    let n = shorter(text.len(), 36);
     let mut name = [0u16; 36];
     let mut i = 0;
-    while i < n {
-        name[i] = text[i] as u16;
+    while i < 36 {
+        name[i] = unit_of(text, i);
         i += 1;
     }
     name
 }
 
-fn record(last: u8, from: u64, to: u64, text: &[u8]) -> Partition {
+// The record of a slot's partition.
+fn record(slot: u8, from: u64, to: u64, text: &[u8]) -> Partition {
     Partition {
         part_type_guid: basic_data(),
-        part_guid: sample_guid(last),
+        part_guid: sample_guid(slot),
         first_lba: Lba(from),
         last_lba: Lba(to),
         flags: 0,
@@ -59,22 +61,31 @@ fn record(last: u8, from: u64, to: u64, text: &[u8]) -> Partition {
     }
 }
 
+fn put(img: &mut [u8], slot: u8, from: u64, to: u64, text: &[u8]) {
+    card::put(img, 512, Slot(slot as u32), record(slot, from, to, text));
+}
+
 fn fill(img: &mut [u8]) {
     card::lay(img, 512, sample_guid(0));
-    card::put(img, 512, Slot(1), record(1, 34, 65, b"map 2026-11-15"));
-    card::put(img, 512, Slot(2), record(2, 66, 85, b"roads"));
-    card::put(img, 512, Slot(3), record(3, 86, 94, b"notes"));
+    put(img, 1, 34, 65, b"map 2026-11-15");
+    put(img, 2, 66, 85, b"roads");
+    put(img, 3, 86, 94, b"notes");
+}
+
+// How many slots a card has in use, or 0 of a card that is refused.
+fn used(img: &[u8]) -> u32 {
+    match card::count_used(img, 512) {
+        PartitionCount::Present(n) => n,
+        PartitionCount::Refused(_w) => 0,
+    }
 }
 
 // Writes the card if it holds its three slots.
 fn write(img: &[u8]) {
-    match card::count_used(img, 512) {
-        PartitionCount::Present(3) => {
-            io::write_all(STDOUT_FILENO, img);
-        }
-        _ => {
-            io::write_all(STDERR_FILENO, b"sample: a call was refused\n");
-        }
+    if used(img) == 3 {
+        io::write_all(STDOUT_FILENO, img);
+    } else {
+        io::write_all(STDERR_FILENO, b"sample: a call was refused\n");
     }
 }
 

@@ -1,24 +1,20 @@
+-- `sample::name_of` is safe and ends: `i` is at most 36, and the measure is what is left to 36. Assumes nothing.
+use Prim.Native.Nat.{_≤_, _-_}
 use borrow.Author.Needs.{needs}
 use Rattle.sample.proofs.name_of.Statement.{statement}
 use Rattle.sample.proofs.name_of.Tie as tie
 
 abbrev Inv-loop : tie.InvT-loop
-Inv-loop text n name₀ i₀ name i = ?
+Inv-loop text name₀ i₀ name i = i ≤ 36
 
 abbrev μ-loop : tie.MeasureT-loop
-μ-loop text n name₀ i₀ name i = ?
-
-shorter-requires : tie.Need-shorter-requires Inv-loop μ-loop
-shorter-requires c κs = search needs
+μ-loop text name₀ i₀ name i = 36 - i
 
 loop-holds : tie.Need-loop-holds Inv-loop μ-loop
 loop-holds c = search needs
 
-shared-slice-read-name : tie.Need-shared-slice-read-name Inv-loop μ-loop
-shared-slice-read-name c = search needs
-
-cast-name : tie.Need-cast-name Inv-loop μ-loop
-cast-name c = search needs
+unit-of-requires : tie.Need-unit-of-requires Inv-loop μ-loop
+unit-of-requires c κs = search needs
 
 mul-name : tie.Need-mul-name Inv-loop μ-loop
 mul-name c = search needs
@@ -44,10 +40,8 @@ name-of-spec =
     (tie.spec
     Inv-loop
     μ-loop
-    shorter-requires
     loop-holds
-    shared-slice-read-name
-    cast-name
+    unit-of-requires
     mul-name
     array-write-name
     add-i

@@ -1,5 +1,0 @@
-use borrow.Author.Needs.{needs}
-use Rattle.sample.proofs.write.Statement.{statement}
-
-pub write-spec : {M : Type 1} → statement M
-write-spec 𝓤 H 𝓜 𝓖 𝓡 = search needs
