@@ -2,7 +2,7 @@
 use mathlib.Core.Path.{_≡_, refl, sym, ap, _∙_}
 use mathlib.Core.List.{List}
 use Prim.Native.Nat.{ℕ}
-use Rattle.units.specs.Answer.{Why, Answer, accepted, refused, Beside, beside, Outcome, Ends}
+use Rattle.units.specs.Answer.{Why, Answer, accepted, refused, Beside, beside, Outcome, gives, Ends, ends}
 use Rattle.card_c.specs.Exports.{told, crossed, aside, answerToC}
 
 module _ {A S : Type 0} (make : ℕ → A → S) (z : A) where
@@ -23,6 +23,10 @@ module _ {A S : Type 0} (make : ℕ → A → S) (z : A) where
 -- a call that ends in an outcome ends in the outcome so told
 pub told-ends : {A C : Type 0} (f : A → C) (o : Outcome A) {a : A} {r : C} {i : List ℕ} → Ends o a i → r ≡ f a → Ends (told f o) r i
 told-ends f o e q = record { answer = q ∙ ap f (e .answer); image = e .image }
+
+-- the same where the outcome is known by an equation
+pub told-gives : {A C : Type 0} (f : A → C) (o : Outcome A) {a : A} {r : C} {i : List ℕ} → o ≡ gives a i → r ≡ f a → Ends (told f o) r i
+told-gives f o e q = told-ends f o (ends e) q
 
 pub answer-fine : (a : Answer Unit) → a ≡ accepted tt → record { number = 0; slot = 0 } ≡ answerToC a
 unfolding answerToC

@@ -2,3 +2,4 @@
 // crosses as a pointer and a length. Each export is one proved call and the way its answer is told to C.
 mod answers; // answers.rt: the structs that come back, and how each answer becomes one
 mod cards; // cards.rt: the card calls
+mod rows; // rows.rt: the listing into lent bytes

@@ -1,3 +1,4 @@
+-- `answers::answer_to_c` meets its contract. Assumes nothing.
 use mathlib.Core.Path.{sym, ap, _∙_}
 use Rattle.units.specs.Meanings.{verdictMeans}
 use Rattle.card_c.proofs.Laws.{answer-fine, answer-no}

@@ -1,3 +1,4 @@
+-- `answers::count_to_c` meets its contract. Assumes nothing.
 use mathlib.Core.Path.{sym, ap, _∙_}
 use Rattle.partition.specs.Meanings.{countMeans}
 use Rattle.card_c.proofs.Laws.{crossed-fine, crossed-no}

@@ -1,3 +1,4 @@
+-- `answers::next_to_c` meets its contract. Assumes nothing.
 use mathlib.Core.Path.{sym, ap, _∙_}
 use Rattle.partition.specs.Meanings.{nextMeans}
 use Rattle.card_c.proofs.Laws.{crossed-fine, crossed-no}

@@ -1,3 +1,4 @@
+-- `answers::number_of` meets its contract. Assumes nothing.
 use mathlib.Core.Path.{sym, ap, _∙_}
 use borrow.Author.Needs.{needs}
 use Rattle.units.specs.declared.Verdict.{Verdict}

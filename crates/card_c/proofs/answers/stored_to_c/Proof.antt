@@ -1,3 +1,4 @@
+-- `answers::stored_to_c` meets its contract. Assumes nothing.
 use mathlib.Core.Path.{ap}
 use Rattle.units.specs.Meanings.{storedMeans}
 use Rattle.card_c.proofs.Laws.{crossed-fine, crossed-no}

@@ -1,3 +1,4 @@
+-- `cards::card_lay` meets its contract. Assumes nothing.
 use Rattle.card_c.specs.Exports.{answerToC}
 use Rattle.card_c.proofs.Laws.{told-ends}
 use borrow.Author.Needs.{needs}

@@ -1,3 +1,4 @@
+-- `cards::card_next_used` meets its contract. Assumes nothing.
 use mathlib.Core.Path.{sym, ap, _∙_}
 use Rattle.card_c.specs.Exports.{nextToC}
 use borrow.Author.Needs.{needs}

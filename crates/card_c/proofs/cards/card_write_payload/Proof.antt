@@ -1,3 +1,4 @@
+-- `cards::card_write_payload` meets its contract. Assumes nothing.
 use Rattle.card_c.specs.Exports.{storedToC}
 use Rattle.card_c.proofs.Laws.{told-ends}
 use borrow.Author.Needs.{needs}
