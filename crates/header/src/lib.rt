@@ -16,9 +16,11 @@ ghost use Rattle.header.specs.Writing.{partsSum, primaryWritten, backupW
 ghost use Rattle.header.specs.Meanings.{readMeans, writtenMeans, sumMeans};
 
 // Major and minor revision.
+#[repr(C)]
 pub struct Revision(pub u16, pub u16);
 
 // A header by its fields (UEFI 2.10, 5.3.2). The signature is no field: it is compared on reading and stored on writing.
+#[repr(C)]
 pub struct Header {
     pub revision: Revision,
     pub header_size_le: u32,

@@ -16,6 +16,7 @@ ghost use Rattle.mbr.specs.Storing.{wholeStored, tailStored, bytesStored
 ghost use Rattle.mbr.specs.Meanings.{recordMeans, mbrMeans, setMeans, bootcodeMeans, signatureMeans};
 
 // A partition record of 16 bytes, by its fields.
+#[repr(C)]
 pub struct PartRecord {
     pub boot_indicator: u8,
     pub start_head: u8,
@@ -30,6 +31,7 @@ pub struct PartRecord {
 }
 
 // The MBR by its fields (UEFI 2.10, 5.2.3). The bytes 55 AA are no field: they are compared on parsing and stored on writing.
+#[repr(C)]
 pub struct ProtectiveMbr {
     pub bootcode: [u8; 440],
     pub disk_signature: [u8; 4],

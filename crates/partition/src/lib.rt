@@ -25,6 +25,7 @@ ghost use Rattle.partition.specs.Array.{partitionRead, partitionCount, p
 ghost use Rattle.partition.specs.Meanings.{lengthMeans, readMeans, countMeans, nextMeans};
 
 // An entry's record (UEFI 2.10, 5.3.3). The name is 36 raw 16-bit units.
+#[repr(C)]
 pub struct Partition {
     pub part_type_guid: Guid,
     pub part_guid: Guid,

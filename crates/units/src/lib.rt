@@ -11,6 +11,7 @@ ghost use Rattle.units.specs.Guids.{guidRead, guidStored, isNil, nilGuid
 ghost use Rattle.units.specs.Meanings.{placedMeans, blockMeans, arrayPlaceMeans, slotMeans, numberMeans, guidMeans, storedMeans};
 
 // The number of a block.
+#[repr(C)]
 pub struct Lba(pub u64);
 
 // A byte's place in a slice, counted from 0.
@@ -238,6 +239,7 @@ pub fn store_number(s: &mut [u8], at: BytePlace, x: Number) -> Stored
 }
 
 // The last eight bytes of a GUID, in their order.
+#[repr(C)]
 pub struct Tail(
     pub u8,
     pub u8,
@@ -250,6 +252,7 @@ pub struct Tail(
 );
 
 // A GUID by its fields (UEFI 2.10, appendix A).
+#[repr(C)]
 pub struct Guid {
     pub time_low: u32,
     pub time_mid: u16,

@@ -1,0 +1,37 @@
+-- How an answer crosses, one law for each way that the code makes one. No contract cites this file. Assumes nothing.
+use mathlib.Core.Path.{_≡_, refl, sym, ap, _∙_}
+use mathlib.Core.List.{List}
+use Prim.Native.Nat.{ℕ}
+use Rattle.units.specs.Answer.{Why, Answer, accepted, refused, Beside, beside, Outcome, gives, Ends, ends}
+use Rattle.card_c.specs.Exports.{told, crossed, aside, answerToC}
+
+module _ {A S : Type 0} (make : ℕ → A → S) (z : A) where
+  pub crossed-fine : (a : Answer A) {x : A} → a ≡ accepted x → make 0 x ≡ crossed make z a
+  unfolding crossed
+  crossed-fine a e = sym (ap (crossed make z) e)
+
+  pub crossed-no : (a : Answer A) {w : Why} {k : ℕ} → a ≡ refused w → k ≡ w .number → make k z ≡ crossed make z a
+  unfolding crossed
+  crossed-no a e q = ap (λ (i : ℕ). make i z) q ∙ sym (ap (crossed make z) e)
+
+  -- where the value beside a refusal is the one that crosses, both are told in the same way
+  pub aside-crossed : (a : Answer A) → aside make (beside z a) ≡ crossed make z a
+  unfolding aside beside crossed
+  aside-crossed (accepted x) = refl
+  aside-crossed (refused w) = refl
+
+-- a call that ends in an outcome ends in the outcome so told
+pub told-ends : {A C : Type 0} (f : A → C) (o : Outcome A) {a : A} {r : C} {i : List ℕ} → Ends o a i → r ≡ f a → Ends (told f o) r i
+told-ends f o e q = record { answer = q ∙ ap f (e .answer); image = e .image }
+
+-- the same where the outcome is known by an equation
+pub told-gives : {A C : Type 0} (f : A → C) (o : Outcome A) {a : A} {r : C} {i : List ℕ} → o ≡ gives a i → r ≡ f a → Ends (told f o) r i
+told-gives f o e q = told-ends f o (ends e) q
+
+pub answer-fine : (a : Answer Unit) → a ≡ accepted tt → record { number = 0; slot = 0 } ≡ answerToC a
+unfolding answerToC
+answer-fine a e = sym (ap answerToC e)
+
+pub answer-no : (a : Answer Unit) {w : Why} {k s : ℕ} → a ≡ refused w → k ≡ w .number → s ≡ w .slot → record { number = k; slot = s } ≡ answerToC a
+unfolding answerToC
+answer-no a e q p = cc

@@ -1,0 +1,3 @@
+-- The laws of the answers that cross.
+pub mod Laws
+pub mod RowLaws

@@ -1,0 +1,120 @@
+// The card calls for C.
+use crate::answers;
+use crate::answers::CardAnswer;
+use crate::answers::CardUsedRead;
+use crate::answers::GptCount;
+use crate::answers::GptNext;
+use crate::answers::GptSlotRead;
+use crate::answers::GptStored;
+use crate::rows;
+use partition::Partition;
+use units::BytePlace;
+use units::Guid;
+use units::Slot;
+ghost use mathlib.Core.Path.{_≡_};
+ghost use Rattle.units.specs.Answer.{Ends};
+ghost use Rattle.tables.specs.Calls.{layOutcome, checkAnswer, putOutcome, clearOutcome, payloadOutcome};
+ghost use Rattle.tables.specs.Listing.{countAnswer, nextAnswer, slotRead, nthAnswer};
+ghost use Rattle.card_c.specs.Exports.{told, answerToC, storedToC, countToC, nextToC, heldToC, usedToC};
+ghost use Rattle.card_c.specs.Rows.{rowsListed};
+
+// Lays an empty card: 1, 8, 10.
+#[no_mangle]
+pub extern "C" fn card_lay(img: &mut [u8], b: u64, guid: Guid) -> CardAnswer
+    ensures { λ r. ⌜ Ends (told answerToC (layOutcome b (now (img .entry)) guid)) r (now (img .exit)) ⌝ }
+{
+    answers::answer_to_c(card::lay(img, b, guid))
+}
+
+// The card check: 1, 8, 10; 4, 5, 16, 6 of each table; 17, 16.
+#[no_mangle]
+pub extern "C" fn card_check(img: &[u8], b: u64) -> CardAnswer
+    ensures { λ r. ⌜ r ≡ answerToC (checkAnswer b (now (img .entry))) ⌝ }
+{
+    answers::answer_to_c(card::check(img, b))
+}
+
+// Puts a record into a slot of both tables: 18, 19, 20, 21, 22 after the check.
+#[no_mangle]
+pub extern "C" fn card_put(img: &mut [u8], b: u64, slot: u32, partition: Partition) -> CardAnswer
+    ensures { λ r. ⌜ Ends (told answerToC (putOutcome b (now (img .entry)) slot partition)) r (now (img .exit)) ⌝ }
+{
+    answers::answer_to_c(card::put(img, b, Slot(slot), partition))
+}
+
+// Clears a slot in both tables: 18 after the check.
+#[no_mangle]
+pub extern "C" fn card_clear(img: &mut [u8], b: u64, slot: u32) -> CardAnswer
+    ensures { λ r. ⌜ Ends (told answerToC (clearOutcome b (now (img .entry)) slot)) r (now (img .exit)) ⌝ }
+{
+    answers::answer_to_c(card::clear(img, b, Slot(slot)))
+}
+
+// Writes bytes at a place of a slot's partition: 18, 23, 24 after the check.
+#[no_mangle]
+pub extern "C" fn card_write_payload(
+    img: &mut [u8],
+    b: u64,
+    slot: u32,
+    place: usize,
+    bytes: &[u8],
+) -> GptStored
+    ensures { λ r. ⌜ Ends (told storedToC (payloadOutcome b (now (img .entry)) slot place (now (bytes .entry)))) r (now (img .exit)) ⌝ }
+{
+    answers::stored_to_c(card::write_payload(img, b, Slot(slot), BytePlace(place), bytes))
+}
+
+// How many slots are used: the check's numbers.
+#[no_mangle]
+pub extern "C" fn card_count_used(img: &[u8], b: u64) -> GptCount
+    ensures { λ r. ⌜ r ≡ countToC (countAnswer b (now (img .entry))) ⌝ }
+{
+    answers::count_to_c(listing::count_used(img, b))
+}
+
+// The first used slot after a slot, where slot 0 stands before the first: the check's numbers.
+#[no_mangle]
+pub extern "C" fn card_next_used(img: &[u8], b: u64, after: u32) -> GptNext
+    ensures { λ r. ⌜ r ≡ nextToC (nextAnswer b (now (img .entry)) after) ⌝ }
+{
+    answers::next_to_c(listing::next_used(img, b, Slot(after)))
+}
+
+// What a slot holds: 18 after the check.
+#[no_mangle]
+pub extern "C" fn card_read_slot(img: &[u8], b: u64, slot: u32) -> GptSlotRead
+    ensures { λ r. ⌜ r ≡ heldToC (slotRead b (now (img .entry)) slot) ⌝ }
+{
+    answers::slot_to_c(listing::read_slot(img, b, Slot(slot)))
+}
+
+// Used slot k with its record, counted from 0: the check's numbers.
+#[no_mangle]
+pub extern "C" fn card_nth_used(img: &[u8], b: u64, k: u32) -> CardUsedRead
+    ensures { λ r. ⌜ r ≡ usedToC (nthAnswer b (now (img .entry)) k) ⌝ }
+{
+    answers::used_to_c(listing::nth_used(img, b, k))
+}
+
+// The listing into lent bytes, 136 bytes an entry, and how many there are: 15 after the check, where there are fewer bytes.
+#[no_mangle]
+pub extern "C" fn card_list(img: &[u8], b: u64, out: &mut [u8]) -> GptCount
+    ensures { λ r. ⌜ Ends (told countToC (rowsListed b (now (img .entry)) (now (out .entry)))) r (now (out .exit)) ⌝ }
+{
+    let found = checking::inner::check_number(img, b);
+    if found != 0 {
+        return GptCount {
+            number: found,
+            count: 0,
+        };
+    }
+    let count = listing::inner::used_count(img, b);
+    if out.len() / 136 < count as usize {
+        return GptCount {
+            number: 15,
+            count: 0,
+        };
+    }
+    rows::put_rows(img, b, count, out);
+    GptCount { number: 0, count }
+}
