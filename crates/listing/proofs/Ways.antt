@@ -73,6 +73,9 @@ module _ (B : ℕ) (xs : List ℕ) (h : roomCheck B (length xs) ≡ 0) where
   unfolding insideOrEmpty inside
   array-inside e = rw (e, le-leb (B + B + 16384) (length xs) array-end)
 
+  pub entry-inside : {at : ℕ} (s : ℕ) → badSlot s ≡ false → at ≡ entryPlace (B + B) (s - 1) → at + 128 ≤ length xs
+  entry-inside s k e = omega (arith, array-end, slot-ok s k .1, e)
+
 module _ (B : ℕ) (xs : List ℕ) {at : ℕ} where
   pub counted : {r : ℕ} → at ≡ B + B → r ≡ length (presentFrom xs at 0 128) → r ≡ length (presentSlots (tables B xs))
   counted e q = q ∙ ap (λ (j : ℕ). length (presentFrom xs j 0 128)) e ∙ sym (ap length (slots-in-image B (length xs) xs))
