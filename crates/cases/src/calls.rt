@@ -90,18 +90,22 @@ pub fn clear(img: &mut [u8], b: u64, slot: Slot) {
     say::verdict(v, crc32::crc32(img) == before);
 }
 
+fn pay_bytes(img: &mut [u8], b: u64, slot: Slot, place: BytePlace, payload: &[u8]) {
+    let before = crc32::crc32(img);
+    say::start(b, b"payload");
+    say::bytes(b" ", payload.len());
+    say::number(b" at ", place.0 as u64);
+    say::number(b" of slot ", slot.0 as u64);
+    let v = card::write_payload(img, b, slot, place, payload);
+    say::stored(v, crc32::crc32(img) == before);
+}
+
 // Writes n times the same byte.
 pub fn pay(img: &mut [u8], b: u64, slot: Slot, place: BytePlace, n: usize, byte: u8)
     requires { ⌜ n ≤ 4097 ⌝ }
 {
-    let before = crc32::crc32(img);
     let payload = [byte; 4097];
-    say::start(b, b"payload");
-    say::bytes(b" ", n);
-    say::number(b" at ", place.0 as u64);
-    say::number(b" of slot ", slot.0 as u64);
-    let v = card::write_payload(img, b, slot, place, &payload[..n]);
-    say::stored(v, crc32::crc32(img) == before);
+    pay_bytes(img, b, slot, place, &payload[..n]);
 }
 
 pub fn count(img: &[u8], b: u64) {
@@ -153,27 +157,32 @@ fn units_of(name: [u16; 36]) {
     }
 }
 
-// What a slot holds.
-pub fn read(img: &[u8], b: u64, slot: Slot) {
-    say::start(b, b"read");
-    say::number(b" slot ", slot.0 as u64);
-    let r = card::read_slot(img, b, slot);
-    if r.present {
-        let p = r.partition;
-        blocks(b": ", p);
-        say::number(b", flags ", p.flags);
-        say::text(b", name");
-        units_of(p.name);
-        say::text(b"\n");
-    } else {
-        absent(r.verdict);
-    }
+fn whole(p: Partition) {
+    blocks(b": ", p);
+    say::number(b", flags ", p.flags);
+    say::text(b", name");
+    let name = p.name;
+    units_of(name);
 }
 
 fn absent(v: Verdict) {
     match v {
         Verdict::Accepted => say::text(b": empty"),
         Verdict::Refused(w) => say::refused(w),
+    }
+}
+
+// What a slot holds.
+pub fn read(img: &[u8], b: u64, slot: Slot) {
+    say::start(b, b"read");
+    say::number(b" slot ", slot.0 as u64);
+    let r = card::read_slot(img, b, slot);
+    let v = r.verdict;
+    let p = r.partition;
+    if r.present {
+        whole(p);
+    } else {
+        absent(v);
     }
     say::text(b"\n");
 }
@@ -207,15 +216,24 @@ fn next_number(v: NextPartition) -> u64 {
     }
 }
 
+fn read_number(img: &[u8], b: u64) -> u64 {
+    let r = card::read_slot(img, b, Slot(0));
+    let v = r.verdict;
+    number_of(v)
+}
+
+fn nth_number(img: &[u8], b: u64) -> u64 {
+    let r = card::nth_used(img, b, 0);
+    let v = r.verdict;
+    number_of(v)
+}
+
 // The numbers of the listing calls.
 fn all_listing(img: &[u8], b: u64) {
     say::number(b", count ", count_number(card::count_used(img, b)));
     say::number(b", next ", next_number(card::next_used(img, b, Slot(0))));
-    say::number(
-        b", read ",
-        number_of(card::read_slot(img, b, Slot(0)).verdict),
-    );
-    say::number(b", nth ", number_of(card::nth_used(img, b, 0).verdict));
+    say::number(b", read ", read_number(img, b));
+    say::number(b", nth ", nth_number(img, b));
 }
 
 // The numbers of all calls that start with the card check. They are given slot 0 and a nil type, so that a call that does not check first answers 18.

@@ -63,14 +63,24 @@ fn high_fields(img: &mut [u8], s: Shape, word: &[u8], head: BytePlace) {
     sealed(img, s, word, b" entry size, header sum right", head, 84);
 }
 
+// 4 and 5.
+fn header(img: &mut [u8], s: Shape, word: &[u8], head: BytePlace) {
+    plain(img, s, word, b" signature", head);
+    plain(img, s, word, b" last usable", bytes::after(head, 48));
+    plain(img, s, word, b" header sum", bytes::after(head, 16));
+}
+
+// 6.
+fn array(img: &mut [u8], s: Shape, word: &[u8], head: BytePlace, start: Lba) {
+    plain(img, s, word, b" array", bytes::place(start, s.b, 16));
+    sealed(img, s, word, b" array sum, header sum right", head, 88);
+}
+
 // 4, 5, 16, 6 of one table.
-pub fn table(img: &mut [u8], s: Shape, word: &[u8], head: Lba, array: Lba) {
+pub fn table(img: &mut [u8], s: Shape, word: &[u8], head: Lba, start: Lba) {
     let h = bytes::place(head, s.b, 0);
-    plain(img, s, word, b" signature", h);
-    plain(img, s, word, b" last usable", bytes::after(h, 48));
-    plain(img, s, word, b" header sum", bytes::after(h, 16));
+    header(img, s, word, h);
     low_fields(img, s, word, h);
     high_fields(img, s, word, h);
-    plain(img, s, word, b" array", bytes::place(array, s.b, 16));
-    sealed(img, s, word, b" array sum, header sum right", h, 88);
+    array(img, s, word, h, start);
 }

@@ -25,20 +25,19 @@ pub struct Shape {
     pub after_header: usize,
 }
 
-// 14 blocks of 4,096 bytes, and 100 bytes.
-fn space() -> [u8; 57444] {
-    [0xA5; 57444]
+// Every call on an image that is too short, or with a bad block size.
+fn short_image(img: &mut [u8], b: u64) {
+    calls::lay(img, b);
+    say::start(b, b"on");
+    say::bytes(b" ", img.len());
+    calls::all(img, b);
 }
 
-// Every call on an image that is too short, or with a bad block size.
 fn short(n: usize, b: u64)
-    requires { ⌜ n ≤ 57444 ⌝ }
+    requires { ⌜ n ≤ 49152 ⌝ }
 {
-    let mut img = space();
-    calls::lay(&mut img[..n], b);
-    say::start(b, b"on");
-    say::bytes(b" ", n);
-    calls::all(&mut img[..n], b);
+    let mut img = [0xA5; 49152];
+    short_image(&mut img[..n], b);
 }
 
 // 1, 8, 10.
@@ -54,72 +53,73 @@ fn room() {
     short(49151, 4096);
 }
 
-fn smallest() {
-    let mut img = space();
-    small::run(
-        &mut img[..34916],
-        Small {
-            b: 512,
-            size: 512,
-            usable: Lba(34),
-            end: Lba(68),
-        },
-    );
-    let mut large = space();
-    small::run(
-        &mut large[..49252],
-        Small {
-            b: 4096,
-            size: 4096,
-            usable: Lba(6),
-            end: Lba(12),
-        },
-    );
+// 68 blocks, and 100 bytes.
+fn smallest_512() {
+    let mut img = [0xA5; 34916];
+    let s = Small {
+        b: 512,
+        size: 512,
+        usable: Lba(34),
+        end: Lba(68),
+    };
+    small::run(&mut img, s);
+}
+
+// 12 blocks, and 100 bytes.
+fn smallest_4096() {
+    let mut img = [0xA5; 49252];
+    let s = Small {
+        b: 4096,
+        size: 4096,
+        usable: Lba(6),
+        end: Lba(12),
+    };
+    small::run(&mut img, s);
 }
 
 fn three(img: &mut [u8], s: Shape) {
     slots::run(img, s);
     damage::table(img, s, b"primary", Lba(1), Lba(2));
     damage::table(img, s, b"backup", s.backup, s.above);
-    pairs::disagreeing(img, s);
-    pairs::entries(img, s);
-    pairs::ordered(img, s);
-    pairs::untested(img, s);
+    pairs::run(img, s);
 }
 
-fn of_three() {
-    let mut img = space();
-    three(
-        &mut img[..35940],
-        Shape {
-            b: 512,
-            below: Lba(33),
-            first: Lba(34),
-            second: Lba(35),
-            third: Lba(36),
-            above: Lba(37),
-            backup: Lba(69),
-            after_header: 420,
-        },
-    );
-    let mut large = space();
-    three(
-        &mut large,
-        Shape {
-            b: 4096,
-            below: Lba(5),
-            first: Lba(6),
-            second: Lba(7),
-            third: Lba(8),
-            above: Lba(9),
-            backup: Lba(13),
-            after_header: 4004,
-        },
-    );
+// 70 blocks, and 100 bytes.
+fn three_512() {
+    let mut img = [0xA5; 35940];
+    let s = Shape {
+        b: 512,
+        below: Lba(33),
+        first: Lba(34),
+        second: Lba(35),
+        third: Lba(36),
+        above: Lba(37),
+        backup: Lba(69),
+        after_header: 420,
+    };
+    three(&mut img, s);
+}
+
+// 14 blocks, and 100 bytes.
+fn three_4096() {
+    let mut img = [0xA5; 57444];
+    let s = Shape {
+        b: 4096,
+        below: Lba(5),
+        first: Lba(6),
+        second: Lba(7),
+        third: Lba(8),
+        above: Lba(9),
+        backup: Lba(13),
+        after_header: 4004,
+    };
+    three(&mut img, s);
 }
 
 fn main() {
     room();
-    smallest();
-    of_three();
+    smallest_512();
+    smallest_4096();
+    three_512();
+    three_4096();
 }

@@ -18,10 +18,13 @@ fn in_entry(slot: Slot, n: usize) -> usize
     128 * (units::inner::array_place(slot) as usize) + n
 }
 
-// The same byte of both arrays changed.
-fn both(img: &mut [u8], s: Shape, n: usize, mask: u8) {
-    bytes::change(img, bytes::place(Lba(2), s.b, n), mask);
-    bytes::change(img, bytes::place(s.above, s.b, n), mask);
+// Bits of byte n of a slot's entry changed in both arrays.
+fn both(img: &mut [u8], s: Shape, slot: Slot, n: usize, mask: u8)
+    requires { ⌜ (1 ≤ slot .0) × (n < 128) ⌝ }
+{
+    let k = in_entry(slot, n);
+    bytes::change(img, bytes::place(Lba(2), s.b, k), mask);
+    bytes::change(img, bytes::place(s.above, s.b, k), mask);
 }
 
 // All four sums made right.
@@ -32,64 +35,67 @@ fn new_sums(img: &mut [u8], s: Shape) {
     bytes::seal_table(img, back, bytes::place(s.above, s.b, 0));
 }
 
-// A byte of both arrays changed, and all sums made right.
-fn entry(img: &mut [u8], s: Shape, what: &[u8], n: usize, mask: u8) {
+// Bits of byte n of a slot's entry changed in both arrays, and all sums made right.
+fn entry(img: &mut [u8], s: Shape, what: &[u8], slot: Slot, n: usize, mask: u8)
+    requires { ⌜ (1 ≤ slot .0) × (n < 128) ⌝ }
+{
     fresh(img, s);
-    both(img, s, n, mask);
+    both(img, s, slot, n, mask);
     new_sums(img, s);
     refusals(img, s.b, b"", what);
 }
 
-fn nil_type(img: &mut [u8], s: Shape) {
-    fresh(img, s);
+// The type of slot 1 nil in both arrays, and all sums made right.
+fn both_nil(img: &mut [u8], s: Shape) {
     units::store_guid(img, bytes::place(Lba(2), s.b, 0), Guid::nil());
     units::store_guid(img, bytes::place(s.above, s.b, 0), Guid::nil());
     new_sums(img, s);
+}
+
+fn nil_type(img: &mut [u8], s: Shape) {
+    fresh(img, s);
+    both_nil(img, s);
     refusals(img, s.b, b"", b"entry of nil type");
 }
 
-// 16 of the entries.
-pub fn entries(img: &mut [u8], s: Shape) {
+// 16 of an entry's blocks.
+fn misplaced(img: &mut [u8], s: Shape) {
     entry(
         img,
         s,
         b"entry with its first block below the usable ones",
-        in_entry(Slot(1), 32),
+        Slot(1),
+        32,
         3,
     );
     entry(
         img,
         s,
         b"entry with its last block above the usable ones",
-        in_entry(Slot(2), 40),
+        Slot(2),
+        40,
         1,
     );
     entry(
         img,
         s,
         b"entry with its last block below its first",
-        in_entry(Slot(1), 32),
+        Slot(1),
+        32,
         1,
     );
-    entry(
-        img,
-        s,
-        b"two entries that share a block",
-        in_entry(Slot(2), 32),
-        1,
-    );
-    entry(
-        img,
-        s,
-        b"entry of zeros but for one byte",
-        in_entry(Slot(3), 127),
-        1,
-    );
+    entry(img, s, b"two entries that share a block", Slot(2), 32, 1);
+}
+
+// 16 of the entries.
+fn entries(img: &mut [u8], s: Shape) {
+    misplaced(img, s);
+    entry(img, s, b"entry of zeros but for one byte", Slot(3), 127, 1);
     nil_type(img, s);
 }
 
 // 17: another GUID, and another array, in a backup whose sums are right.
-pub fn disagreeing(img: &mut [u8], s: Shape) {
+fn disagreeing(img: &mut [u8], s: Shape) {
     let back = bytes::place(s.backup, s.b, 0);
     let array = bytes::place(s.above, s.b, 0);
     damage::sealed(img, s, b"backup", b" GUID, header sum right", back, 56);
@@ -136,7 +142,7 @@ fn guid_and_array(img: &mut [u8], s: Shape) {
 fn guid_and_entries(img: &mut [u8], s: Shape) {
     fresh(img, s);
     bytes::change(img, bytes::place(s.backup, s.b, 56), 1);
-    both(img, s, in_entry(Slot(2), 32), 1);
+    both(img, s, Slot(2), 32, 1);
     new_sums(img, s);
     refusals(
         img,
@@ -153,7 +159,7 @@ fn size_first(img: &mut [u8], s: Shape) {
     refusals(img, 1024, b"primary", b" signature");
 }
 
-pub fn ordered(img: &mut [u8], s: Shape) {
+fn ordered(img: &mut [u8], s: Shape) {
     field_and_array(img, s);
     array_and_backup(img, s);
     guid_and_array(img, s);
@@ -167,11 +173,15 @@ fn plain_blocks(img: &[u8], s: Shape) -> bool {
     front && bytes::filled(img, bytes::place(s.backup, s.b, 92), s.after_header, 0)
 }
 
-// Block 0 and the bytes of a header block after byte 91 are not tested; a call that rewrites the header blocks leaves zeros there.
-pub fn untested(img: &mut [u8], s: Shape) {
+// Block 0 is not tested.
+fn block_0(img: &mut [u8], s: Shape) {
     fresh(img, s);
     bytes::change(img, bytes::place(Lba(0), s.b, 510), 255);
     calls::check(img, s.b, b"check with block 0 changed");
+}
+
+// The bytes of a header block after byte 91 are not tested; a call that rewrites the block leaves zeros there.
+fn after_headers(img: &mut [u8], s: Shape) {
     bytes::change(img, bytes::place(Lba(1), s.b, 92), 1);
     bytes::change(img, bytes::place(s.backup, s.b, 511), 1);
     calls::check(
@@ -185,4 +195,16 @@ pub fn untested(img: &mut [u8], s: Shape) {
         b"header blocks zero after byte 91",
         plain_blocks(img, s),
     );
+}
+
+fn untested(img: &mut [u8], s: Shape) {
+    block_0(img, s);
+    after_headers(img, s);
+}
+
+pub fn run(img: &mut [u8], s: Shape) {
+    disagreeing(img, s);
+    entries(img, s);
+    ordered(img, s);
+    untested(img, s);
 }

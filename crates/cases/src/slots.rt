@@ -87,12 +87,23 @@ fn full_name(first: Lba, last: Lba) -> Partition {
     p
 }
 
+fn put_named(img: &mut [u8], b: u64, slot: Slot, p: Partition, what: &[u8]) {
+    say::start(b, what);
+    calls::put_record(img, b, slot, p);
+}
+
 fn named(img: &mut [u8], s: Shape) {
+    let p = long_name(s.first);
+    let q = full_name(s.second, s.third);
     calls::lay(img, s.b);
-    say::start(s.b, b"put slot 4 with a name that has units after a zero");
-    calls::put_record(img, s.b, Slot(4), long_name(s.first));
-    say::start(s.b, b"put slot 6 with a name of 36 units");
-    calls::put_record(img, s.b, Slot(6), full_name(s.second, s.third));
+    put_named(
+        img,
+        s.b,
+        Slot(4),
+        p,
+        b"put slot 4 with a name that has units after a zero",
+    );
+    put_named(img, s.b, Slot(6), q, b"put slot 6 with a name of 36 units");
     say::sum(s.b, b"sum of the image: ", crc32::crc32(img));
 }
 
