@@ -1,5 +1,5 @@
 # The targets of the repository. `make test` is the gate: its last line is rt ci's `N passed, 0 failed`.
-.PHONY: demo test bench clean
+.PHONY: demo test bench boundary clean
 
 # Prints the check sums of published vectors and of what is piped in; a terminal counts as no input.
 demo:
@@ -16,6 +16,12 @@ bench:
 	rt staticlib crc32_c
 	cc -O2 -o target/bench-crc bench/crc.c target/staticlib/libcrc32_c.a -lz
 	target/bench-crc
+
+# Calls every function of include/card.h from C (tests/c).
+boundary:
+	rt staticlib card_c
+	cc -std=c11 -Wall -Wextra -O2 -Iinclude -o target/boundary tests/c/boundary.c target/staticlib/libcard_c.a
+	target/boundary
 
 clean:
 	rm -rf target

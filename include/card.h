@@ -88,6 +88,103 @@ CARD_AT(gpt_partition, last_lba, 40);
 CARD_AT(gpt_partition, flags, 48);
 CARD_AT(gpt_partition, name, 56);
 
+/* Major and minor revision; on the card the minor comes first. */
+typedef struct gpt_revision {
+    uint16_t major;
+    uint16_t minor;
+} gpt_revision;
+CARD_SIZE(gpt_revision, 4);
+CARD_AT(gpt_revision, major, 0);
+CARD_AT(gpt_revision, minor, 2);
+
+/* A header by its fields. EFI PART is no field: it is compared on reading and stored on writing. */
+typedef struct gpt_header {
+    gpt_revision revision;
+    uint32_t header_size_le;
+    uint32_t crc32;
+    uint32_t reserved;
+    uint64_t current_lba;
+    uint64_t backup_lba;
+    uint64_t first_usable;
+    uint64_t last_usable;
+    gpt_guid disk_guid;
+    uint64_t part_start;
+    uint32_t num_parts;
+    uint32_t part_size;
+    uint32_t crc32_parts;
+} gpt_header;
+CARD_SIZE(gpt_header, 88);
+CARD_AT(gpt_header, revision, 0);
+CARD_AT(gpt_header, header_size_le, 4);
+CARD_AT(gpt_header, crc32, 8);
+CARD_AT(gpt_header, reserved, 12);
+CARD_AT(gpt_header, current_lba, 16);
+CARD_AT(gpt_header, backup_lba, 24);
+CARD_AT(gpt_header, first_usable, 32);
+CARD_AT(gpt_header, last_usable, 40);
+CARD_AT(gpt_header, disk_guid, 48);
+CARD_AT(gpt_header, part_start, 64);
+CARD_AT(gpt_header, num_parts, 72);
+CARD_AT(gpt_header, part_size, 76);
+CARD_AT(gpt_header, crc32_parts, 80);
+
+/* A record of the MBR. */
+typedef struct gpt_part_record {
+    uint8_t boot_indicator;
+    uint8_t start_head;
+    uint8_t start_sector;
+    uint8_t start_track;
+    uint8_t os_type;
+    uint8_t end_head;
+    uint8_t end_sector;
+    uint8_t end_track;
+    uint32_t lb_start;
+    uint32_t lb_size;
+} gpt_part_record;
+CARD_SIZE(gpt_part_record, 16);
+CARD_AT(gpt_part_record, boot_indicator, 0);
+CARD_AT(gpt_part_record, start_head, 1);
+CARD_AT(gpt_part_record, start_sector, 2);
+CARD_AT(gpt_part_record, start_track, 3);
+CARD_AT(gpt_part_record, os_type, 4);
+CARD_AT(gpt_part_record, end_head, 5);
+CARD_AT(gpt_part_record, end_sector, 6);
+CARD_AT(gpt_part_record, end_track, 7);
+CARD_AT(gpt_part_record, lb_start, 8);
+CARD_AT(gpt_part_record, lb_size, 12);
+
+/* The MBR by its fields; set them as you like. Its bytes in memory are not those on the card, where the records begin at 446 and 55 AA follows them. */
+typedef struct gpt_mbr {
+    uint8_t bootcode[440];
+    uint8_t disk_signature[4];
+    uint16_t unknown;
+    gpt_part_record partitions[4];
+} gpt_mbr;
+CARD_SIZE(gpt_mbr, 512);
+CARD_AT(gpt_mbr, bootcode, 0);
+CARD_AT(gpt_mbr, disk_signature, 440);
+CARD_AT(gpt_mbr, unknown, 444);
+CARD_AT(gpt_mbr, partitions, 448);
+
+/* What a new header builder can be told. gpt_settings_new gives the settings that a builder begins with. */
+typedef struct gpt_settings {
+    gpt_guid disk_guid;
+    uint64_t backup_lba;   /* 0: not set */
+    uint64_t first_usable; /* the built one is this or a greater one */
+    uint64_t last_usable;  /* likewise */
+    uint32_t num_parts;    /* fewer than 128 become 128 */
+    uint32_t part_size;
+    bool primary;
+} gpt_settings;
+CARD_SIZE(gpt_settings, 56);
+CARD_AT(gpt_settings, disk_guid, 0);
+CARD_AT(gpt_settings, backup_lba, 16);
+CARD_AT(gpt_settings, first_usable, 24);
+CARD_AT(gpt_settings, last_usable, 32);
+CARD_AT(gpt_settings, num_parts, 40);
+CARD_AT(gpt_settings, part_size, 44);
+CARD_AT(gpt_settings, primary, 48);
+
 /* ---- answers: the number first */
 
 /* slot: the one that 22 names, else 0. */
@@ -201,6 +298,260 @@ CARD_AT(card_row, partition, 8);
    as it stands in the array. The bytes after the last row stay. out is a card_row array, as bytes, or any other bytes.
    The check's numbers, then 15 where out_len is less than 136 times the count. */
 gpt_count card_list(const uint8_t *img, size_t img_len, uint64_t b, uint8_t *out, size_t out_len);
+
+/* ---- the ported calls: the check sum and headers */
+
+/* CRC-32/ISO-HDLC; of no bytes it is 0. */
+uint32_t gpt_crc32(const uint8_t *bytes, size_t bytes_len);
+
+typedef struct gpt_header_read {
+    uint32_t number;
+    gpt_header header;
+} gpt_header_read;
+CARD_SIZE(gpt_header_read, 96);
+CARD_AT(gpt_header_read, number, 0);
+CARD_AT(gpt_header_read, header, 8);
+
+/* The primary header, at byte b.
+   1, 2, 4, 5. */
+gpt_header_read gpt_read_primary_header(const uint8_t *img, size_t img_len, uint64_t b);
+
+/* The backup header, in the last whole block.
+   1, 8, 4, 5. */
+gpt_header_read gpt_read_backup_header(const uint8_t *img, size_t img_len, uint64_t b);
+
+typedef struct gpt_block {
+    uint32_t number;
+    uint64_t lba;
+} gpt_block;
+CARD_SIZE(gpt_block, 16);
+CARD_AT(gpt_block, number, 0);
+CARD_AT(gpt_block, lba, 8);
+
+/* The block of the backup header in an image of len bytes.
+   1, 8. */
+gpt_block gpt_find_backup_lba(size_t len, uint64_t b);
+
+typedef struct gpt_sum {
+    uint32_t number;
+    uint32_t sum;
+} gpt_sum;
+CARD_SIZE(gpt_sum, 8);
+CARD_AT(gpt_sum, number, 0);
+CARD_AT(gpt_sum, sum, 4);
+
+/* The check sum of the entry array that a header names; an empty array is summed anywhere.
+   1, 3 (its start), 2. */
+gpt_sum gpt_partentry_checksum(const uint8_t *img, size_t img_len, gpt_header header, uint64_t b);
+
+/* bytes: how many were stored; header: with its new sums. */
+typedef struct gpt_header_written {
+    uint32_t number;
+    uint64_t bytes;
+    gpt_header header;
+} gpt_header_written;
+CARD_SIZE(gpt_header_written, 104);
+CARD_AT(gpt_header_written, number, 0);
+CARD_AT(gpt_header_written, bytes, 8);
+CARD_AT(gpt_header_written, header, 16);
+
+/* Stores a primary header as one whole block in its current_lba, with both sums new and reserved as 0.
+   1, 11 unless current_lba < backup_lba, 3 and 2 of the array, 3 and 2 of the header's block. */
+gpt_header_written gpt_write_primary(uint8_t *img, size_t img_len, gpt_header header, uint64_t b);
+
+/* The same of a backup header.
+   1, 11 unless current_lba > backup_lba, 3 and 2 of the array, 3 and 2 of the header's block. */
+gpt_header_written gpt_write_backup(uint8_t *img, size_t img_len, gpt_header header, uint64_t b);
+
+/* ---- the ported calls: the header builder */
+
+/* The settings of a new builder: a primary header in block 1, 128 entries of 128 bytes, the backup not set. */
+gpt_settings gpt_settings_new(gpt_guid guid);
+
+/* The header that a new builder gives with these settings: revision 1.0, 92 bytes, sums and reserved 0. The primary is in block 1.
+   1, 9, 3 (count times size passes 32 bits), 10, 10, 3 (the array's start). */
+gpt_header_read gpt_build(gpt_settings settings, uint64_t b);
+
+/* The same of a builder that was copied from a header: which is the primary, both blocks, the usable blocks and the array's shape are the
+   header's, and an entry count below 128 stays. The numbers are those of gpt_build. */
+gpt_header_read gpt_build_from_header(gpt_header header, uint64_t b);
+
+/* ---- the ported calls: partition entries */
+
+typedef struct gpt_entry_read {
+    uint32_t number;
+    gpt_partition partition;
+} gpt_entry_read;
+CARD_SIZE(gpt_entry_read, 136);
+CARD_AT(gpt_entry_read, number, 0);
+CARD_AT(gpt_entry_read, partition, 8);
+
+/* The record in the first 128 bytes; its name's units after the first zero are cleared.
+   2. */
+gpt_entry_read gpt_entry_from_bytes(const uint8_t *bytes, size_t bytes_len);
+
+/* The record's 128 bytes, cut or filled with zeros to out_len. */
+void gpt_entry_to_bytes(uint8_t *out, size_t out_len, gpt_partition partition);
+
+/* Whether the type is not all zero. */
+bool gpt_is_used(gpt_partition partition);
+
+typedef struct gpt_length {
+    uint32_t number;
+    uint64_t length;
+} gpt_length;
+CARD_SIZE(gpt_length, 16);
+CARD_AT(gpt_length, number, 0);
+CARD_AT(gpt_length, length, 8);
+
+/* How many blocks the partition has.
+   20, 3. */
+gpt_length gpt_sectors_len(gpt_partition partition);
+
+/* How many bytes.
+   1, 20, 3, 3. */
+gpt_length gpt_bytes_len(gpt_partition partition, uint64_t b);
+
+typedef struct gpt_place {
+    uint32_t number;
+    uint64_t place;
+} gpt_place;
+CARD_SIZE(gpt_place, 16);
+CARD_AT(gpt_place, number, 0);
+CARD_AT(gpt_place, place, 8);
+
+/* The place of its first byte in the image.
+   1, 3. */
+gpt_place gpt_bytes_start(gpt_partition partition, uint64_t b);
+
+/* Stores the record as entry index, counted from 0, of an array of entries of entry_size bytes that starts in block start_lba.
+   1, 7 (0, or above 4,096), 3, 2. */
+gpt_stored gpt_write_entry(uint8_t *img, size_t img_len, gpt_partition partition, uint64_t index, uint64_t start_lba, uint64_t b, uint32_t entry_size);
+
+/* Stores zeros over count entries from entry index on. No entries are accepted at any place that does not overflow.
+   1, 7, 3, 2. */
+gpt_stored gpt_write_zero_entries(uint8_t *img, size_t img_len, uint64_t index, uint64_t count, uint64_t start_lba, uint64_t b, uint32_t entry_size);
+
+/* The entry in a slot of the array that a header names.
+   1, 3, 7 (not 128), 2, 6, 18. */
+gpt_slot_read gpt_read_partition(const uint8_t *img, size_t img_len, gpt_header header, uint64_t b, uint32_t slot);
+
+/* How many entries of that array are present: not 128 zero bytes.
+   1, 3, 7, 2, 6. */
+gpt_count gpt_count_partitions(const uint8_t *img, size_t img_len, gpt_header header, uint64_t b);
+
+/* The first present slot of that array after a slot; 0 stands before the first.
+   1, 3, 7, 2, 6. */
+gpt_next gpt_next_partition(const uint8_t *img, size_t img_len, gpt_header header, uint64_t b, uint32_t after);
+
+/* ---- the ported calls: the protective MBR */
+
+/* The MBR of a disk with lb_size blocks after block 0; FFFFFFFF where there are more. */
+gpt_mbr gpt_mbr_new(uint32_t lb_size);
+
+/* The protective record of such a disk. */
+gpt_part_record gpt_mbr_protective_record(uint32_t lb_size);
+
+typedef struct gpt_mbr_read {
+    uint32_t number;
+    gpt_mbr mbr;
+} gpt_mbr_read;
+CARD_SIZE(gpt_mbr_read, 516);
+CARD_AT(gpt_mbr_read, number, 0);
+CARD_AT(gpt_mbr_read, mbr, 4);
+
+/* The MBR in a buffer of one block.
+   1, 12, 13. */
+gpt_mbr_read gpt_mbr_from_bytes(const uint8_t *buf, size_t buf_len, uint64_t b);
+
+/* The MBR in block 0 of an image.
+   1, 2, 13. */
+gpt_mbr_read gpt_mbr_from_image(const uint8_t *img, size_t img_len, uint64_t b);
+
+typedef struct gpt_record_read {
+    uint32_t number;
+    gpt_part_record part_record;
+} gpt_record_read;
+CARD_SIZE(gpt_record_read, 20);
+CARD_AT(gpt_record_read, number, 0);
+CARD_AT(gpt_record_read, part_record, 4);
+
+/* The record in a buffer of 16 bytes.
+   14. */
+gpt_record_read gpt_mbr_record_from_bytes(const uint8_t *buf, size_t buf_len);
+
+typedef struct gpt_record_bytes {
+    uint8_t bytes[16];
+} gpt_record_bytes;
+CARD_SIZE(gpt_record_bytes, 16);
+CARD_AT(gpt_record_bytes, bytes, 0);
+
+gpt_record_bytes gpt_mbr_record_to_bytes(gpt_part_record part_record);
+
+/* The record at a place from 0 to 3.
+   18. */
+gpt_record_read gpt_mbr_record(gpt_mbr mbr, size_t place);
+
+/* old: the record that stood there; mbr: with the new one. */
+typedef struct gpt_record_set {
+    uint32_t number;
+    gpt_part_record old;
+    gpt_mbr mbr;
+} gpt_record_set;
+CARD_SIZE(gpt_record_set, 532);
+CARD_AT(gpt_record_set, number, 0);
+CARD_AT(gpt_record_set, old, 4);
+CARD_AT(gpt_record_set, mbr, 20);
+
+/* The MBR with a record set at a place from 0 to 3. A refusal has no MBR in it: its bytes are zero.
+   18. */
+gpt_record_set gpt_mbr_set_record(gpt_mbr mbr, size_t place, gpt_part_record part_record);
+
+/* Stores the MBR over bytes 0 to 511, whatever the block size is.
+   2. */
+gpt_stored gpt_mbr_overwrite(uint8_t *img, size_t img_len, gpt_mbr mbr);
+
+/* Stores its four records and 55 AA over bytes 446 to 511.
+   2. */
+gpt_stored gpt_mbr_update_conservative(uint8_t *img, size_t img_len, gpt_mbr mbr);
+
+typedef struct gpt_bootcode_read {
+    uint32_t number;
+    uint8_t bootcode[440];
+} gpt_bootcode_read;
+CARD_SIZE(gpt_bootcode_read, 444);
+CARD_AT(gpt_bootcode_read, number, 0);
+CARD_AT(gpt_bootcode_read, bootcode, 4);
+
+typedef struct gpt_bootcode {
+    uint8_t bytes[440];
+} gpt_bootcode;
+CARD_SIZE(gpt_bootcode, 440);
+CARD_AT(gpt_bootcode, bytes, 0);
+
+/* Bytes 0 to 439 of an image, read and written.
+   2. */
+gpt_bootcode_read gpt_mbr_read_bootcode(const uint8_t *img, size_t img_len);
+gpt_stored gpt_mbr_write_bootcode(uint8_t *img, size_t img_len, gpt_bootcode bootcode);
+
+typedef struct gpt_signature_read {
+    uint32_t number;
+    uint8_t disk_signature[4];
+} gpt_signature_read;
+CARD_SIZE(gpt_signature_read, 8);
+CARD_AT(gpt_signature_read, number, 0);
+CARD_AT(gpt_signature_read, disk_signature, 4);
+
+typedef struct gpt_signature {
+    uint8_t bytes[4];
+} gpt_signature;
+CARD_SIZE(gpt_signature, 4);
+CARD_AT(gpt_signature, bytes, 0);
+
+/* Bytes 440 to 443 of an image, read and written.
+   2. */
+gpt_signature_read gpt_mbr_read_disk_signature(const uint8_t *img, size_t img_len);
+gpt_stored gpt_mbr_write_disk_signature(uint8_t *img, size_t img_len, gpt_signature signature);
 
 #ifdef __cplusplus
 }

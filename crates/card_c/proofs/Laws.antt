@@ -1,9 +1,12 @@
 -- How an answer crosses, one law for each way that the code makes one. No contract cites this file. Assumes nothing.
 use mathlib.Core.Path.{_≡_, refl, sym, ap, _∙_}
 use mathlib.Core.List.{List}
-use Prim.Native.Nat.{ℕ}
-use Rattle.units.specs.Answer.{Why, Answer, accepted, refused, Beside, beside, Outcome, gives, Ends, ends}
-use Rattle.card_c.specs.Exports.{told, crossed, aside, answerToC}
+use Prim.Native.Nat.{ℕ, _≤_, _<_}
+use borrow.Author.Tests.{lt-ltb, le-ltb}
+use lib.ListN.{length}
+use Rattle.units.specs.Answer.{Why, Answer, accepted, refused, refuse, andThen, Beside, beside, Outcome, gives, Ends, ends}
+use Rattle.partition.specs.Format.{entryAt}
+use Rattle.card_c.specs.Exports.{told, crossed, aside, answerToC, answered, entryParsed}
 
 module _ {A S : Type 0} (make : ℕ → A → S) (z : A) where
   pub crossed-fine : (a : Answer A) {x : A} → a ≡ accepted x → make 0 x ≡ crossed make z a
@@ -35,3 +38,27 @@ answer-fine a e = sym (ap answerToC e)
 pub answer-no : (a : Answer Unit) {w : Why} {k s : ℕ} → a ≡ refused w → k ≡ w .number → s ≡ w .slot → record { number = k; slot = s } ≡ answerToC a
 unfolding answerToC
 answer-no a e q p = cc
+
+-- the answer that stands behind a verdict with a value beside it
+pub answered-beside : {A : Type 0} (z : A) (a : Answer A) → answered (beside z a) ≡ a
+unfolding answered beside
+answered-beside z (accepted x) = refl
+answered-beside z (refused w) = refl
+
+pub answered-fine : {A : Type 0} (r : Beside A) → r .verdict ≡ accepted tt → answered r ≡ accepted (r .value)
+unfolding answered
+answered-fine r e = ap (λ (v : Answer Unit). andThen v (λ u. accepted (r .value))) e
+
+pub answered-no : {A : Type 0} (r : Beside A) {w : Why} → r .verdict ≡ refused w → answered r ≡ refused w
+unfolding answered
+answered-no r e = ap (λ (v : Answer Unit). andThen v (λ u. accepted (r .value))) e
+
+-- ---- a record from bytes
+
+pub entry-short : (xs : List ℕ) → length xs < 128 → entryParsed xs ≡ refuse 2
+unfolding entryParsed
+entry-short xs h = rw (lt-ltb (length xs) 128 h)
+
+pub entry-whole : (xs : List ℕ) → 128 ≤ length xs → entryParsed xs ≡ accepted (entryAt xs 0)
+unfolding entryParsed
+entry-whole xs h = rw (le-ltb (length xs) 128 h)

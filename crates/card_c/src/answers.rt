@@ -65,7 +65,7 @@ fn slot_in(w: Refusal) -> u32
 }
 
 // The number of a verdict.
-fn number_of(v: Verdict) -> u32
+pub fn number_of(v: Verdict) -> u32
     ensures { λ r. ⌜ r ≡ numberOf (verdictMeans v) ⌝ }
 {
     match v {

@@ -1,7 +1,7 @@
 -- `cards::card_count_used` meets its contract. Assumes nothing.
-use mathlib.Core.Path.{sym, ap, _∙_}
-use Rattle.card_c.specs.Exports.{countToC}
+use mathlib.Core.Path.{ap, _∙_}
 use borrow.Author.Needs.{needs}
+use Rattle.card_c.specs.Exports.{countToC}
 use Rattle.card_c.proofs.cards.card_count_used.Statement.{statement}
 use Rattle.card_c.proofs.cards.card_count_used.Tie as tie
 

@@ -1,0 +1,457 @@
+/* Every call of include/card.h, across the boundary: each field that goes in has a value of its own and is looked for where it must come
+   out, in the image or in the answer, and each kind of answer is seen refused too. It ends with "boundary: N values ok", or with exit
+   status 1 after a line for each value that differs. Build: see tests/c/README.md. */
+#include "card.h"
+#include <stdio.h>
+#include <stdlib.h>
+#include <string.h>
+
+#define BLOCK 512
+#define BLOCKS 70
+#define LEN (BLOCKS * BLOCK)
+#define MOST UINT64_MAX
+
+static unsigned seen, wrong;
+static uint8_t img[LEN], before[LEN];
+
+static void same_at(int line, const char *what, uint64_t got, uint64_t want) {
+    seen++;
+    if (got == want) return;
+    wrong++;
+    printf("line %d: %s is %llu, not %llu\n", line, what, (unsigned long long)got, (unsigned long long)want);
+}
+#define SAME(got, want) same_at(__LINE__, #got, (uint64_t)(got), (uint64_t)(want))
+
+static void bytes_at(int line, const char *what, const void *got, const void *want, size_t n) {
+    seen++;
+    if (memcmp(got, want, n) == 0) return;
+    wrong++;
+    printf("line %d: %s is not as it must be\n", line, what);
+}
+#define BYTES(got, want, n) bytes_at(__LINE__, #got, got, want, n)
+#define KEPT() BYTES(img, before, LEN)
+
+static void zeros_at(int line, const char *what, const void *got, size_t n) {
+    static const uint8_t none[1024];
+    bytes_at(line, what, got, none, n);
+}
+#define ZEROS(got, n) zeros_at(__LINE__, #got, got, n)
+
+static const gpt_guid disk = {0x03020100, 0x0504, 0x0706, {8, 9, 10, 11, 12, 13, 14, 15}};
+
+static gpt_partition some(uint64_t first, uint64_t last) {
+    gpt_partition p = {
+        .part_type_guid = {0xA3A2A1A0, 0xA5A4, 0xA7A6, {0xA8, 0xA9, 0xAA, 0xAB, 0xAC, 0xAD, 0xAE, 0xAF}},
+        .part_guid = {0xB3B2B1B0, 0xB5B4, 0xB7B6, {0xB8, 0xB9, 0xBA, 0xBB, 0xBC, 0xBD, 0xBE, 0xBF}},
+        .first_lba = first,
+        .last_lba = last,
+        .flags = 0xC7C6C5C4C3C2C1C0,
+    };
+    for (int i = 0; i < 36; i++) p.name[i] = (uint16_t)(0x4E00 + i);
+    return p;
+}
+
+static uint64_t le(const uint8_t *at, int n) {
+    uint64_t x = 0;
+    while (n-- > 0) x = x << 8 | at[n];
+    return x;
+}
+
+static void cards(void) {
+    card_answer a = card_lay(img, LEN, 1024, disk);
+    SAME(a.number, CARD_BAD_BLOCK_SIZE);
+    SAME(a.slot, 0);
+    a = card_lay(img, 67 * BLOCK, BLOCK, disk);
+    SAME(a.number, CARD_BACKUP_LBA_TO_EARLY);
+    KEPT();
+    a = card_lay(img, LEN, BLOCK, disk);
+    SAME(a.number, 0);
+    BYTES(img + BLOCK, "EFI PART", 8);
+    for (int i = 0; i < 16; i++) SAME(img[BLOCK + 56 + i], i);
+    SAME(le(img + BLOCK + 32, 8), BLOCKS - 1);
+    SAME(card_check(img, LEN, BLOCK).number, 0);
+    SAME(card_check(img, LEN, 4096).number, CARD_BACKUP_LBA_TO_EARLY);
+    SAME(card_count_used(img, LEN, BLOCK).count, 0);
+    SAME(card_next_used(img, LEN, BLOCK, 0).slot, 0);
+
+    gpt_partition p = some(35, 36), q = some(34, 34);
+    SAME(card_put(img, LEN, BLOCK, 129, p).number, CARD_BAD_SLOT);
+    SAME(card_put(img, LEN, BLOCK, 1, some(36, 35)).number, CARD_BAD_RANGE);
+    SAME(card_put(img, LEN, BLOCK, 1, some(33, 35)).number, CARD_OUTSIDE_USABLE);
+    SAME(card_put(img, LEN, BLOCK, 7, p).number, 0);
+    BYTES(img + 2 * BLOCK + 6 * 128, &p, 128);
+    BYTES(img + (BLOCKS - 33) * BLOCK + 6 * 128, &p, 128);
+    memcpy(before, img, LEN);
+    a = card_put(img, LEN, BLOCK, 2, some(34, 35));
+    SAME(a.number, CARD_OVERLAP);
+    SAME(a.slot, 7);
+    KEPT();
+    SAME(card_put(img, LEN, BLOCK, 128, q).number, 0);
+
+    gpt_count n = card_count_used(img, LEN, BLOCK);
+    SAME(n.number, 0);
+    SAME(n.count, 2);
+    n = card_count_used(img, 1000, BLOCK);
+    SAME(n.number, CARD_TO_SMALL_FOR_BACKUP);
+    SAME(n.count, 0);
+    SAME(card_next_used(img, LEN, BLOCK, 0).slot, 7);
+    SAME(card_next_used(img, LEN, BLOCK, 7).slot, 128);
+    SAME(card_next_used(img, LEN, BLOCK, 128).slot, 0);
+    SAME(card_next_used(img, 1000, BLOCK, 0).number, CARD_TO_SMALL_FOR_BACKUP);
+
+    gpt_slot_read r = card_read_slot(img, LEN, BLOCK, 7);
+    SAME(r.number, 0);
+    SAME(r.present, 1);
+    BYTES(&r.partition, &p, 128);
+    r = card_read_slot(img, LEN, BLOCK, 8);
+    SAME(r.number, 0);
+    SAME(r.present, 0);
+    ZEROS(&r.partition, 128);
+    r = card_read_slot(img, LEN, BLOCK, 0);
+    SAME(r.number, CARD_BAD_SLOT);
+    SAME(r.present, 0);
+    ZEROS(&r.partition, 128);
+
+    card_used_read u = card_nth_used(img, LEN, BLOCK, 1);
+    SAME(u.number, 0);
+    SAME(u.found, 1);
+    SAME(u.slot, 128);
+    BYTES(&u.partition, &q, 128);
+    u = card_nth_used(img, LEN, BLOCK, 2);
+    SAME(u.number, 0);
+    SAME(u.found, 0);
+    SAME(u.slot, 0);
+    ZEROS(&u.partition, 128);
+    SAME(card_nth_used(img, 1000, BLOCK, 0).number, CARD_TO_SMALL_FOR_BACKUP);
+}
+
+static void lists(void) {
+    gpt_partition p = some(35, 36), q = some(34, 34);
+    card_row rows[3], old[3];
+    memset(rows, 0x5A, sizeof rows);
+    memcpy(old, rows, sizeof rows);
+    gpt_count n = card_list(img, LEN, BLOCK, (uint8_t *)rows, 271);
+    SAME(n.number, CARD_NO_ROOM);
+    SAME(n.count, 0);
+    BYTES(rows, old, sizeof rows);
+    n = card_list(img, LEN, 1, (uint8_t *)rows, sizeof rows);
+    SAME(n.number, CARD_BAD_BLOCK_SIZE);
+    BYTES(rows, old, sizeof rows);
+    n = card_list(img, LEN, BLOCK, (uint8_t *)rows, 272);
+    SAME(n.number, 0);
+    SAME(n.count, 2);
+    SAME(rows[0].slot, 7);
+    BYTES(&rows[0].partition, &p, 128);
+    SAME(rows[1].slot, 128);
+    BYTES(&rows[1].partition, &q, 128);
+    BYTES(&rows[2], &old[2], sizeof rows[2]);
+}
+
+static void payloads(void) {
+    memcpy(before, img, LEN);
+    gpt_stored s = card_write_payload(img, LEN, BLOCK, 7, 1021, (const uint8_t *)"fire", 4);
+    SAME(s.number, CARD_PAST_PARTITION);
+    SAME(s.bytes, 0);
+    SAME(card_write_payload(img, LEN, BLOCK, 7, SIZE_MAX, (const uint8_t *)"fire", 4).number, CARD_PAST_PARTITION);
+    SAME(card_write_payload(img, LEN, BLOCK, 1, 0, (const uint8_t *)"fire", 4).number, CARD_EMPTY_SLOT);
+    KEPT();
+    s = card_write_payload(img, LEN, BLOCK, 7, 1020, (const uint8_t *)"fire", 4);
+    SAME(s.number, 0);
+    SAME(s.bytes, 4);
+    memcpy(before + 35 * BLOCK + 1020, "fire", 4);
+    KEPT();
+    SAME(card_clear(img, LEN, BLOCK, 129).number, CARD_BAD_SLOT);
+    SAME(card_clear(img, LEN, BLOCK, 128).number, 0);
+    ZEROS(img + 2 * BLOCK + 127 * 128, 128);
+    SAME(card_count_used(img, LEN, BLOCK).count, 1);
+}
+
+static void headers(void) {
+    SAME(gpt_crc32((const uint8_t *)"123456789", 9), 0xCBF43926);
+    SAME(gpt_crc32((const uint8_t *)"", 0), 0);
+    gpt_header_read h = gpt_read_primary_header(img, LEN, BLOCK);
+    SAME(h.number, 0);
+    SAME(h.header.revision.major, 1);
+    SAME(h.header.revision.minor, 0);
+    SAME(h.header.header_size_le, 92);
+    SAME(h.header.crc32, le(img + BLOCK + 16, 4));
+    SAME(h.header.reserved, 0);
+    SAME(h.header.current_lba, 1);
+    SAME(h.header.backup_lba, BLOCKS - 1);
+    SAME(h.header.first_usable, 34);
+    SAME(h.header.last_usable, BLOCKS - 34);
+    BYTES(&h.header.disk_guid, &disk, 16);
+    SAME(h.header.part_start, 2);
+    SAME(h.header.num_parts, 128);
+    SAME(h.header.part_size, 128);
+    SAME(h.header.crc32_parts, gpt_crc32(img + 2 * BLOCK, 16384));
+    gpt_header_read k = gpt_read_backup_header(img, LEN, BLOCK);
+    SAME(k.number, 0);
+    SAME(k.header.current_lba, BLOCKS - 1);
+    SAME(k.header.part_start, BLOCKS - 33);
+    k = gpt_read_primary_header(img, BLOCK + 91, BLOCK);
+    SAME(k.number, CARD_SHORT);
+    SAME(k.header.backup_lba, 0);
+    SAME(k.header.crc32_parts, 0);
+    ZEROS(&k.header.disk_guid, 16);
+    gpt_block f = gpt_find_backup_lba(1600, BLOCK);
+    SAME(f.number, 0);
+    SAME(f.lba, 2);
+    f = gpt_find_backup_lba(1535, BLOCK);
+    SAME(f.number, CARD_TO_SMALL_FOR_BACKUP);
+    SAME(f.lba, 0);
+    gpt_sum s = gpt_partentry_checksum(img, LEN, h.header, BLOCK);
+    SAME(s.number, 0);
+    SAME(s.sum, h.header.crc32_parts);
+    s = gpt_partentry_checksum(img, 1000, h.header, BLOCK);
+    SAME(s.number, CARD_SHORT);
+    SAME(s.sum, 0);
+}
+
+static void writes(void) {
+    gpt_header h = gpt_read_primary_header(img, LEN, BLOCK).header;
+    memcpy(before, img, LEN);
+    SAME(gpt_write_backup(img, LEN, h, BLOCK).number, CARD_WRITING_TO_WRONG_LBA);
+    KEPT();
+    gpt_header t = h;
+    t.disk_guid.time_mid = 0x1234;
+    t.reserved = 9;
+    gpt_header_written w = gpt_write_primary(img, LEN, t, BLOCK);
+    SAME(w.number, 0);
+    SAME(w.bytes, BLOCK);
+    SAME(w.header.disk_guid.time_mid, 0x1234);
+    SAME(w.header.reserved, 9);
+    SAME(w.header.crc32, le(img + BLOCK + 16, 4));
+    SAME(w.header.crc32_parts, h.crc32_parts);
+    SAME(le(img + BLOCK + 60, 2), 0x1234);
+    SAME(le(img + BLOCK + 20, 4), 0);
+    w = gpt_write_primary(img, 1000, t, BLOCK);
+    SAME(w.number, CARD_SHORT);
+    SAME(w.bytes, 0);
+    SAME(w.header.current_lba, 0);
+    w = gpt_write_backup(img, LEN, gpt_read_backup_header(img, LEN, BLOCK).header, BLOCK);
+    SAME(w.number, 0);
+    SAME(w.header.current_lba, BLOCKS - 1);
+    SAME(gpt_write_primary(img, LEN, h, BLOCK).number, 0);
+    KEPT();
+}
+
+static void builds(void) {
+    gpt_settings s = gpt_settings_new(disk);
+    BYTES(&s.disk_guid, &disk, 16);
+    SAME(s.backup_lba, 0);
+    SAME(s.first_usable, 0);
+    SAME(s.last_usable, 0);
+    SAME(s.num_parts, 128);
+    SAME(s.part_size, 128);
+    SAME(s.primary, 1);
+    gpt_header_read h = gpt_build(s, BLOCK);
+    SAME(h.number, CARD_MISSING_BACKUP_LBA);
+    SAME(h.header.header_size_le, 0);
+    s.backup_lba = 67;
+    h = gpt_build(s, BLOCK);
+    SAME(h.number, 0);
+    SAME(h.header.current_lba, 1);
+    SAME(h.header.backup_lba, 67);
+    SAME(h.header.first_usable, 34);
+    SAME(h.header.last_usable, 34);
+    SAME(h.header.part_start, 2);
+    SAME(h.header.crc32, 0);
+    BYTES(&h.header.disk_guid, &disk, 16);
+    s.last_usable = 100;
+    s.first_usable = 50;
+    s.num_parts = 4;
+    s.part_size = 100;
+    s.primary = false;
+    h = gpt_build(s, BLOCK);
+    SAME(h.number, 0);
+    SAME(h.header.current_lba, 67);
+    SAME(h.header.backup_lba, 1);
+    SAME(h.header.first_usable, 50);
+    SAME(h.header.last_usable, 100);
+    SAME(h.header.part_start, 101);
+    SAME(h.header.num_parts, 128);
+    SAME(h.header.part_size, 100);
+    h.header.num_parts = 4;
+    gpt_header_read k = gpt_build_from_header(h.header, BLOCK);
+    SAME(k.number, 0);
+    SAME(k.header.current_lba, 67);
+    SAME(k.header.num_parts, 4);
+    SAME(gpt_build_from_header(h.header, 0).number, CARD_BAD_BLOCK_SIZE);
+}
+
+static void entries(void) {
+    gpt_partition p = some(5, 9);
+    uint8_t bytes[200];
+    memset(bytes, 0x77, sizeof bytes);
+    gpt_entry_to_bytes(bytes, 150, p);
+    BYTES(bytes, &p, 128);
+    ZEROS(bytes + 128, 22);
+    SAME(bytes[150], 0x77);
+    memset(bytes, 0x77, sizeof bytes);
+    gpt_entry_to_bytes(bytes, 3, p);
+    BYTES(bytes, &p, 3);
+    SAME(bytes[3], 0x77);
+    gpt_entry_to_bytes(bytes, 128, p);
+    gpt_entry_read e = gpt_entry_from_bytes(bytes, 128);
+    SAME(e.number, 0);
+    BYTES(&e.partition, &p, 128);
+    e = gpt_entry_from_bytes(bytes, 127);
+    SAME(e.number, CARD_SHORT);
+    ZEROS(&e.partition, 128);
+    SAME(gpt_is_used(p), 1);
+    gpt_partition nil = p;
+    memset(&nil.part_type_guid, 0, 16);
+    SAME(gpt_is_used(nil), 0);
+
+    SAME(gpt_sectors_len(p).length, 5);
+    SAME(gpt_sectors_len(some(5, 4)).number, CARD_BAD_RANGE);
+    gpt_length l = gpt_sectors_len(some(0, MOST));
+    SAME(l.number, CARD_OVERFLOW);
+    SAME(l.length, 0);
+    SAME(gpt_bytes_len(p, 4096).length, 5 * 4096);
+    SAME(gpt_bytes_len(p, 1).number, CARD_BAD_BLOCK_SIZE);
+    gpt_place at = gpt_bytes_start(p, BLOCK);
+    SAME(at.number, 0);
+    SAME(at.place, 5 * BLOCK);
+    at = gpt_bytes_start(some(MOST, MOST), BLOCK);
+    SAME(at.number, CARD_OVERFLOW);
+    SAME(at.place, 0);
+}
+
+static void arrays(void) {
+    static uint8_t room[8 * BLOCK];
+    gpt_partition p = some(5, 9);
+    gpt_header h = {.part_start = 2, .num_parts = 12, .part_size = 128};
+    gpt_stored s = gpt_write_entry(room, sizeof room, p, 11, 2, BLOCK, 128);
+    SAME(s.number, 0);
+    SAME(s.bytes, 128);
+    BYTES(room + 2 * BLOCK + 11 * 128, &p, 128);
+    SAME(gpt_write_entry(room, sizeof room, p, 3, 2, BLOCK, 128).number, 0);
+    SAME(gpt_write_entry(room, sizeof room, p, 3, 2, BLOCK, 4097).number, CARD_BAD_ENTRY_SIZE);
+    SAME(gpt_write_entry(room, sizeof room, p, MOST, 2, BLOCK, 128).number, CARD_OVERFLOW);
+    h.crc32_parts = gpt_crc32(room + 2 * BLOCK, 12 * 128);
+    SAME(gpt_count_partitions(room, sizeof room, h, BLOCK).count, 2);
+    SAME(gpt_next_partition(room, sizeof room, h, BLOCK, 4).slot, 12);
+    SAME(gpt_next_partition(room, sizeof room, h, BLOCK, 12).slot, 0);
+    gpt_slot_read r = gpt_read_partition(room, sizeof room, h, BLOCK, 4);
+    SAME(r.number, 0);
+    SAME(r.present, 1);
+    BYTES(&r.partition, &p, 128);
+    SAME(gpt_read_partition(room, sizeof room, h, BLOCK, 13).number, CARD_BAD_SLOT);
+    SAME(gpt_write_zero_entries(room, sizeof room, 3, 2, 2, BLOCK, 128).bytes, 256);
+    ZEROS(room + 2 * BLOCK + 3 * 128, 256);
+    SAME(gpt_read_partition(room, sizeof room, h, BLOCK, 4).number, CARD_PARTS_CRC);
+    SAME(gpt_count_partitions(room, sizeof room, h, BLOCK).number, CARD_PARTS_CRC);
+    SAME(gpt_next_partition(room, sizeof room, h, BLOCK, 0).number, CARD_PARTS_CRC);
+    s = gpt_write_zero_entries(room, sizeof room, 0, 1, 8, BLOCK, 1);
+    SAME(s.number, CARD_SHORT);
+    SAME(s.bytes, 0);
+}
+
+static void records(void) {
+    static const uint8_t made[16] = {0, 0, 2, 0, 0xEE, 0xFF, 0xFF, 0xFF, 1, 0, 0, 0, 0xFF, 0xFF, 0xFF, 0xFF};
+    gpt_part_record p = gpt_mbr_protective_record(0xFFFFFFFF);
+    gpt_record_bytes b = gpt_mbr_record_to_bytes(p);
+    BYTES(b.bytes, made, 16);
+    gpt_part_record mine = {1, 2, 3, 4, 5, 6, 7, 8, 0x11223344, 0x55667788};
+    b = gpt_mbr_record_to_bytes(mine);
+    gpt_record_read r = gpt_mbr_record_from_bytes(b.bytes, 16);
+    SAME(r.number, 0);
+    BYTES(&r.part_record, &mine, 16);
+    r = gpt_mbr_record_from_bytes(b.bytes, 15);
+    SAME(r.number, CARD_INVALID_PARTITION_LENGTH);
+    ZEROS(&r.part_record, 16);
+    gpt_mbr m = gpt_mbr_new(69);
+    ZEROS(m.bootcode, 440);
+    SAME(m.partitions[0].os_type, 0xEE);
+    SAME(m.partitions[0].lb_size, 69);
+    m.unknown = 0x1234;
+    gpt_record_set t = gpt_mbr_set_record(m, 3, mine);
+    SAME(t.number, 0);
+    ZEROS(&t.old, 16);
+    BYTES(&t.mbr.partitions[3], &mine, 16);
+    BYTES(&t.mbr, &m, 448 + 48);
+    r = gpt_mbr_record(t.mbr, 3);
+    SAME(r.number, 0);
+    BYTES(&r.part_record, &mine, 16);
+    SAME(gpt_mbr_record(m, 4).number, CARD_BAD_SLOT);
+    t = gpt_mbr_set_record(m, 4, mine);
+    SAME(t.number, CARD_BAD_SLOT);
+    ZEROS(&t.mbr.partitions, 64);
+    SAME(t.mbr.unknown, 0);
+}
+
+static void mbrs(void) {
+    uint8_t room[600];
+    memset(room, 0x77, sizeof room);
+    gpt_mbr m = gpt_mbr_new(69);
+    for (int i = 0; i < 440; i++) m.bootcode[i] = (uint8_t)(i + 1);
+    memcpy(m.disk_signature, "card", 4);
+    m.unknown = 0x1234;
+    SAME(gpt_mbr_overwrite(room, 511, m).number, CARD_SHORT);
+    SAME(room[0], 0x77);
+    gpt_stored s = gpt_mbr_overwrite(room, sizeof room, m);
+    SAME(s.number, 0);
+    SAME(s.bytes, 512);
+    BYTES(room, m.bootcode, 440);
+    BYTES(room + 440, "card\x34\x12", 6);
+    SAME(le(room + 446 + 12, 4), 69);
+    BYTES(room + 510, "\x55\xAA\x77", 3);
+    gpt_mbr_read r = gpt_mbr_from_bytes(room, 512, BLOCK);
+    SAME(r.number, 0);
+    BYTES(&r.mbr, &m, 446);
+    BYTES(r.mbr.partitions, m.partitions, 64);
+    SAME(gpt_mbr_from_bytes(room, 511, BLOCK).number, CARD_INVALID_MBR_LENGTH);
+    SAME(gpt_mbr_from_image(room, sizeof room, BLOCK).mbr.unknown, 0x1234);
+    r = gpt_mbr_from_image(room, 511, BLOCK);
+    SAME(r.number, CARD_SHORT);
+    ZEROS(&r.mbr, 446);
+    ZEROS(r.mbr.partitions, 64);
+    m.partitions[2].lb_start = 0xABCDEF01;
+    m.unknown = 0;
+    SAME(gpt_mbr_update_conservative(room, sizeof room, m).bytes, 66);
+    SAME(le(room + 446 + 32 + 8, 4), 0xABCDEF01);
+    SAME(le(room + 444, 2), 0x1234);
+
+    gpt_bootcode code;
+    memset(code.bytes, 3, sizeof code.bytes);
+    code.bytes[439] = 4;
+    SAME(gpt_mbr_write_bootcode(room, sizeof room, code).bytes, 440);
+    SAME(room[439], 4);
+    BYTES(room + 440, "card", 4);
+    gpt_bootcode_read c = gpt_mbr_read_bootcode(room, 440);
+    SAME(c.number, 0);
+    BYTES(c.bootcode, code.bytes, 440);
+    c = gpt_mbr_read_bootcode(room, 439);
+    SAME(c.number, CARD_SHORT);
+    ZEROS(c.bootcode, 440);
+    gpt_signature sign = {{1, 2, 3, 4}};
+    SAME(gpt_mbr_write_disk_signature(room, sizeof room, sign).bytes, 4);
+    BYTES(room + 440, sign.bytes, 4);
+    gpt_signature_read g = gpt_mbr_read_disk_signature(room, sizeof room);
+    SAME(g.number, 0);
+    BYTES(g.disk_signature, sign.bytes, 4);
+    g = gpt_mbr_read_disk_signature(room, 443);
+    SAME(g.number, CARD_SHORT);
+    ZEROS(g.disk_signature, 4);
+}
+
+int main(void) {
+    cards();
+    lists();
+    payloads();
+    headers();
+    writes();
+    builds();
+    entries();
+    arrays();
+    records();
+    mbrs();
+    if (wrong != 0) {
+        printf("boundary: %u of %u values differ\n", wrong, seen);
+        return EXIT_FAILURE;
+    }
+    printf("boundary: %u values ok\n", seen);
+    return EXIT_SUCCESS;
+}
