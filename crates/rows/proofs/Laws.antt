@@ -16,7 +16,7 @@ use Rattle.units.specs.declared.Refusal.the-variants as refusal
 use Rattle.units.specs.declared.Verdict.the-variants as verdict
 use Rattle.units.specs.Answer.{Why, Answer, accepted, refused, refuse, pick, andThen}
 use Rattle.units.specs.Places.{insideOrEmpty}
-use Rattle.units.specs.Refusals.{why, refusedBy}
+use Rattle.units.specs.Refusals.{refusedBy}
 use Rattle.units.specs.Meanings.{verdictMeans}
 use Rattle.units.proofs.Laws.{by-pick}
 use Rattle.header.specs.declared.Header.{Header}
@@ -26,7 +26,7 @@ use Rattle.partition.specs.Array.{entryPlace, present, presentFrom, firstSlot, 
 use Rattle.partition.proofs.Ways.{inside-filled}
 use Rattle.rows.specs.declared.Entry.{Entry}
 use Rattle.rows.specs.declared.inner.Plan.{Plan}
-use Rattle.rows.specs.Row.{entryOf, presentEntries, partitionsRead, RowOutcome, rowOutcome, RowEnds}
+use Rattle.rows.specs.Row.{entryOf, presentEntries, partitionsRead, rowOutcome, RowEnds}
 use Rattle.rows.specs.Plans.{Lies, InArray, Made, entriesBy, entryBy, slotAfter, planned, noPlan, planWithin, roomed, countBy, entriesFound}
 
 pub length-map : {A B : Type 0} (f : A → B) (l : List A) → length (map f l) ≡ length l

@@ -1,6 +1,6 @@
 -- The present entries of a header's array in a row of records that the caller lends, by document 01, "Partition entry", "Reading the array": the first places
 -- hold the present entries with their slots, ascending, the count is returned, and the rest are unchanged; 15 after 3, 7, 2, 6. Assumes nothing.
-use mathlib.Core.Path.{_≡_, sym, ap, _∙_}
+use mathlib.Core.Path.{_≡_, sym, _∙_}
 use mathlib.Core.List.{List, _++_, map}
 use Prim.Native.Nat.{ℕ, _-_}
 use lib.Dec.{ltb}

@@ -28,6 +28,7 @@ pub struct Plan {
 }
 
 impl Plan {
+    // The plan of a refusal.
     pub fn refused(w: Refusal) -> Plan
         ensures { λ r. ⌜ r ≡ noPlan w ⌝ }
     {
@@ -71,6 +72,7 @@ impl Plan {
         self.present as usize
     }
 
+    // The count, or the refusal.
     pub fn answer(self) -> PartitionCount
         ensures { λ r. ⌜ countMeans r ≡ countBy self ⌝ }
     {

@@ -1,6 +1,5 @@
 -- `rows::inner::entry_in` meets its contract. Assumes nothing.
 use native.Mathlib.Omega.{arith}
-use borrow.Author.Needs.{needs}
 use Rattle.rows.proofs.Laws.{array-ends, entry-ends, entry-read}
 use Rattle.rows.proofs.inner.entry_in.Statement.{statement}
 use Rattle.rows.proofs.inner.entry_in.Tie as tie

@@ -1,10 +1,10 @@
 -- `rows::inner::fill` meets its contract: a walk of its MIR, by hand, with a loop. The row's borrow is opened once, before the loop, and closed once, after it.
--- All that it knows of the functions that are called is that each meets its contract; it names no field of an Entry, of a Plan or of a Slot. Assumes nothing.
+-- All that it knows of the functions that are called is that each meets its contract; it names no field of an Entry. Assumes nothing.
 use mathlib.Core.Path.{_≡_, refl, sym, _∙_, ap, subst}
 use mathlib.Core.Bool.{Bool, true, false}
 use mathlib.Core.WellFounded.{WellFounded, InvImage·wf}
 use Prim.Native.Nat.{ℕ, zero, suc, _+_, _*_, _<_, _≤_, _^_}
-use native.Mathlib.Nat.{add-zero, zero-add, lt-suc-self, lt-irrefl, not-suc-le-zero, le-of-suc-le-suc}
+use native.Mathlib.Nat.{mul-le-mul, add-zero, zero-add, lt-suc-self, lt-irrefl, not-suc-le-zero, le-of-suc-le-suc}
 use native.Mathlib.Omega.{arith}
 use mathlib.Core.List.{List, [], _∷_, _++_, append-assoc}
 use lib.ListN.{length, set, drop as dropL, length-append, length-set}
@@ -28,7 +28,7 @@ use types.Run.{Below, again, loops, first, blocks, look, store, store-raw, init,
 use types.Part.{agg, whole, sub, look-in}
 use sound.WpLaws.{fmOf, WpFn-mono}
 use denote.RattleType.{RattleType, owns}
-use denote.Memory.{pointee}
+use denote.Memory.{mem, pointee}
 use denote.Laws.{Is, shows}
 use denote.Shadow.{pureI}
 use denote.Plain.{uint-makes, uint-lawful}
@@ -100,12 +100,12 @@ fails : (t : Bool) → (Holds t → ⊥) → t ≡ false
 fails true f = absurd (f tt)
 fails false _ = refl
 
--- how many bytes an Entry takes in memory: the number by which the MIR multiplies an index
-abbrev size : ℕ
-size = 136
-
-bytes-fit : (i m : ℕ) → i < m → m * size < 2 ^ 63 → i * size < 2 ^ 64
-bytes-fit i m a b = omega (arith, a, b)
+-- an element of m of n bytes each begins within 64 bits
+bytes-fit : (i m n : ℕ) → i < m → m * n < 2 ^ 63 → i * n < 2 ^ 64
+bytes-fit i m n a b =
+    let c : i ≤ m = omega arith in
+    let d : n ≤ n = omega arith in
+    omega (arith, mul-le-mul c d)
 
 set-at : {X : Type 0} (a : List X) (x y : X) (c : List X) → set (a ++ (x ∷ c)) (length a) y ≡ (a ++ (y ∷ [])) ++ c
 set-at [] x y c = refl
@@ -117,6 +117,10 @@ one-more a x = length-append a (x ∷ [])
 -- ---- types and machine values
 abbrev R : RattleType
 R = T.the-row
+
+-- how many bytes an Entry takes in memory: the number by which the MIR multiplies an index
+abbrev size : ℕ
+size = mem R .size
 
 abbrev word : Ty
 word = tyInt w64
@@ -376,7 +380,7 @@ module _ {M : Type 1} (𝓤 : URA M) (H : Heap 𝓤) (A : Atoms 𝓤) (W : Given
           again ! Nearer At x x′ lt))))))))))
         where
           place-fits : i * size < 2 ^ 64
-          place-fits = bytes-fit i (length xs) (subst (λ (m : ℕ). i < m) len inside) (rm .1)
+          place-fits = bytes-fit i (length xs) size (subst (λ (m : ℕ). i < m) len inside) (rm .1)
 
           next-fits : i + 1 < 2 ^ 64
           next-fits = omega (arith, less, gc)
