@@ -1,4 +1,4 @@
-// The header builder: what each setter gives, and the header that a builder builds.
+// The header builder: set by value or where it stands, and the header that it builds.
 use header::Header;
 use header::Revision;
 use units::Guid;
@@ -176,6 +176,57 @@ impl HeaderBuilder {
     {
         self.part_size = part_size;
         self
+    }
+
+    // This and the six below change the caller's builder where it stands, to what the `with_..` method of the same name gives.
+    pub fn primary(&mut self, primary: bool)
+        ensures { λ _. ⌜ now (self .exit) ≡ withPrimary (now (self .entry)) primary ⌝ }
+    {
+        let h = *self;
+        *self = h.with_primary(primary);
+    }
+
+    pub fn disk_guid(&mut self, disk_guid: Guid)
+        ensures { λ _. ⌜ now (self .exit) ≡ withDiskGuid (now (self .entry)) «disk_guid» ⌝ }
+    {
+        let h = *self;
+        *self = h.with_disk_guid(disk_guid);
+    }
+
+    pub fn backup_lba(&mut self, backup_lba: Lba)
+        ensures { λ _. ⌜ now (self .exit) ≡ withBackupLba (now (self .entry)) «backup_lba» ⌝ }
+    {
+        let h = *self;
+        *self = h.with_backup_lba(backup_lba);
+    }
+
+    pub fn first_usable(&mut self, first_usable: Lba)
+        ensures { λ _. ⌜ now (self .exit) ≡ withFirstUsable (now (self .entry)) «first_usable» ⌝ }
+    {
+        let h = *self;
+        *self = h.with_first_usable(first_usable);
+    }
+
+    pub fn last_usable(&mut self, last_usable: Lba)
+        ensures { λ _. ⌜ now (self .exit) ≡ withLastUsable (now (self .entry)) «last_usable» ⌝ }
+    {
+        let h = *self;
+        *self = h.with_last_usable(last_usable);
+    }
+
+    // Fewer than 128 entries become 128.
+    pub fn num_parts(&mut self, num_parts: u32)
+        ensures { λ _. ⌜ now (self .exit) ≡ withNumParts (now (self .entry)) «num_parts» ⌝ }
+    {
+        let h = *self;
+        *self = h.with_num_parts(num_parts);
+    }
+
+    pub fn part_size(&mut self, part_size: u32)
+        ensures { λ _. ⌜ now (self .exit) ≡ withPartSize (now (self .entry)) «part_size» ⌝ }
+    {
+        let h = *self;
+        *self = h.with_part_size(part_size);
     }
 
     // The header that the builder stands for: 1, 9, 3, 10, 10, 3.

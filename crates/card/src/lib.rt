@@ -4,7 +4,12 @@ mod changing; // changing.rt: what put and clear test and store
 mod laying; // laying.rt: what lay stores
 mod paying; // paying.rt: what a payload write tests and stores
 
+pub use card_row::listing;
 pub use checking::check;
+pub use listing::count_used;
+pub use listing::next_used;
+pub use listing::nth_used;
+pub use listing::read_slot;
 use partition::Partition;
 use units::BytePlace;
 use units::Guid;

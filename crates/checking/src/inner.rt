@@ -20,6 +20,7 @@ ghost use Rattle.tables.specs.Entries.{entry, used, firstOf, lastOf, okEntry, c
 ghost use Rattle.tables.specs.Headers.{sideOf, alike, laidFields};
 ghost use Rattle.tables.specs.Check.{roomCheck, copyCheck, check};
 ghost use Rattle.tables.specs.Calls.{checkAnswer};
+ghost use Rattle.checking.specs.Order.{startsAfter, greatestLast, Below};
 
 // Whether two headers are the same in all fields but the GUID and the sums.
 fn alike(h: Header, k: Header) -> bool
@@ -158,16 +159,53 @@ fn apart_below(img: &[u8], at: usize, k: usize) -> bool
     true
 }
 
-// Whether no two entries share a block: each is compared with those before it.
+// Whether the entry at a place is unused, or starts after block top.
+fn starts_after(img: &[u8], own: usize, top: u64) -> bool
+    requires { ⌜ own + 128 ≤ length (now img) ⌝ }
+    ensures { λ r. ⌜ r ≡ startsAfter (part (now (img .entry)) own 128) top ⌝ }
+{
+    if units::inner::all_zero(img, own, 16) {
+        return true;
+    }
+    top < units::inner::u64_at(img, own + 32)
+}
+
+// The greater of block top and the last block of the entry at a place, if it is used.
+fn greatest_last(img: &[u8], own: usize, top: u64) -> u64
+    requires { ⌜ own + 128 ≤ length (now img) ⌝ }
+    ensures { λ r. ⌜ r ≡ greatestLast (part (now (img .entry)) own 128) top ⌝ }
+{
+    if units::inner::all_zero(img, own, 16) {
+        return top;
+    }
+    let last = units::inner::u64_at(img, own + 40);
+    if top < last { last } else { top }
+}
+
+// The same as `apart_below`, where no entry before entry k ends after block top: only an entry that starts at top or before needs to be compared.
+fn apart_from(img: &[u8], at: usize, k: usize, top: u64) -> bool
+    requires { ⌜ (at + 16384 ≤ length (now img)) × (k < 128) ⌝ }
+    requires { ⌜ Below (part (now img) at 16384) k top ⌝ }
+    ensures { λ r. ⌜ r ≡ all k (λ (j : ℕ). not (clash (entry (part (now (img .entry)) at 16384) k) (entry (part (now (img .entry)) at 16384) j))) ⌝ }
+{
+    if starts_after(img, at + 128 * k, top) {
+        return true;
+    }
+    apart_below(img, at, k)
+}
+
+// Whether no two entries share a block. Entries in the order of their blocks are passed through once.
 fn all_apart(img: &[u8], at: usize) -> bool
     requires { ⌜ at + 16384 ≤ length (now img) ⌝ }
     ensures { λ r. ⌜ r ≡ all 128 (λ (j : ℕ). all 128 (λ (k : ℕ). pick (eqb j k) true (not (clash (entry (part (now (img .entry)) at 16384) j) (entry (part (now (img .entry)) at 16384) k))))) ⌝ }
 {
+    let mut top = 0;
     let mut k = 0;
     while k < 128 {
-        if !apart_below(img, at, k) {
+        if !apart_from(img, at, k, top) {
             return false;
         }
+        top = greatest_last(img, at + 128 * k, top);
         k += 1;
     }
     true

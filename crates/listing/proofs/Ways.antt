@@ -55,14 +55,16 @@ pub check-room : (B : ℕ) (xs : List ℕ) → checkAnswer B xs ≡ accepted tt 
 unfolding check
 check-room B xs e = else-first (roomCheck B (length xs)) _ (judged-zero tt (check B (length xs) (tables B xs)) 0 tt e)
 
+-- a card that is counted has room
+pub counted-room : (B : ℕ) (xs : List ℕ) {n : ℕ} → countAnswer B xs ≡ accepted n → roomCheck B (length xs) ≡ 0
+unfolding check
+counted-room B xs {n} e = else-first (roomCheck B (length xs)) _ (judged-zero (length (presentSlots (tables B xs))) (check B (length xs) (tables B xs)) 0 n e)
+
 -- ---- the leaves: what they read of the image is what the front table has
 
 module _ (B : ℕ) (xs : List ℕ) (h : roomCheck B (length xs) ≡ 0) where
   room : Room B (length xs)
   room = room-ok B (length xs) h
-
-  pub size-most : B ≤ 4096
-  size-most = room .most
 
   array-end : B + B + 16384 ≤ length xs
   array-end = omega (arith, room .low, room .seam, room .top)
@@ -81,12 +83,15 @@ module _ (B : ℕ) (xs : List ℕ) {at : ℕ} where
   pub next-found : {r : ℕ} (after : ℕ) → at ≡ B + B → r ≡ firstSlot xs at 128 after → r ≡ firstSlot (tables B xs .front .array) 0 128 after
   next-found after e q = q ∙ ap (λ (j : ℕ). firstSlot xs j 128 after) e ∙ sym (first-in-image B (length xs) xs after)
 
-  module _ (s : ℕ) (k : badSlot s ≡ false) (e : at ≡ entryPlace (B + B) (s - 1)) where
+  module _ (s : ℕ) (k : badSlot s ≡ false) (e : at ≡ B + B + 128 * (s - 1)) where
+    place : at ≡ entryPlace (B + B) (s - 1)
+    place = omega (arith, e)
+
     pub present-read : {r : Bool} → r ≡ not (allZero (part xs at 128)) → r ≡ present (tables B xs .front .array) 0 (s - 1)
-    present-read q = q ∙ ap (λ (j : ℕ). not (allZero (part xs j 128))) e ∙ sym (present-in-image B (length xs) xs (s - 1) (slot-ok s k .1))
+    present-read q = q ∙ ap (λ (j : ℕ). not (allZero (part xs j 128))) place ∙ sym (present-in-image B (length xs) xs (s - 1) (slot-ok s k .1))
 
     pub entry-read : {r : Partition} → r ≡ entryAt xs at → r ≡ entryAt (tables B xs .front .array) (entryPlace 0 (s - 1))
-    entry-read q = q ∙ ap (λ (j : ℕ). entryAt xs j) e ∙ sym (entry-in-image B (length xs) xs (s - 1) (slot-ok s k .1))
+    entry-read q = q ∙ ap (λ (j : ℕ). entryAt xs j) place ∙ sym (entry-in-image B (length xs) xs (s - 1) (slot-ok s k .1))
 
 -- ---- the loop: i used slots are passed, and those after the last of them are left
 

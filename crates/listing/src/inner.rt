@@ -6,7 +6,7 @@ use units::Slot;
 use units::Verdict;
 ghost use mathlib.Core.Path.{_≡_};
 ghost use mathlib.Core.Bool.{false};
-ghost use Prim.Native.Nat.{_+_, _-_, _≤_};
+ghost use Prim.Native.Nat.{_-_};
 ghost use lib.ListN.{length, getD};
 ghost use Rattle.partition.specs.Format.{entryAt, zeroPartition};
 ghost use Rattle.partition.specs.Array.{entryPlace, present, firstSlot};
@@ -15,28 +15,13 @@ ghost use Rattle.tables.specs.Check.{roomCheck};
 ghost use Rattle.tables.specs.Calls.{badSlot};
 ghost use Rattle.tables.specs.Listing.{presentSlots};
 
-// The byte place of the front array, in block 2.
-fn array_at(b: u64) -> usize
-    requires { ⌜ b ≤ 4096 ⌝ }
-    ensures { λ r. ⌜ r ≡ b + b ⌝ }
-{
-    (b + b) as usize
-}
-
-// The byte place of a slot's entry in the front array.
-fn slot_at(b: u64, slot: u32) -> usize
-    requires { ⌜ (b ≤ 4096) × (badSlot slot ≡ false) ⌝ }
-    ensures { λ r. ⌜ r ≡ entryPlace (b + b) (slot - 1) ⌝ }
-{
-    array_at(b) + (slot as usize - 1) * 128
-}
-
 // How many slots are used.
 pub fn used_count(img: &[u8], b: u64) -> u32
     requires { ⌜ roomCheck b (length (now img)) ≡ 0 ⌝ }
     ensures { λ r. ⌜ r ≡ length (presentSlots (tables b (now (img .entry)))) ⌝ }
 {
-    partition::inner::count_present(img, array_at(b), 128)
+    let array = tables::inner::array_place(img.len(), b, false);
+    partition::inner::count_present(img, array.0, 128)
 }
 
 // The first used slot after a slot; 0 where there is none.
@@ -44,7 +29,8 @@ pub fn used_after(img: &[u8], b: u64, after: u32) -> u32
     requires { ⌜ roomCheck b (length (now img)) ≡ 0 ⌝ }
     ensures { λ r. ⌜ r ≡ firstSlot (tables b (now (img .entry)) .front .array) 0 128 after ⌝ }
 {
-    partition::inner::next_present(img, array_at(b), 128, after)
+    let array = tables::inner::array_place(img.len(), b, false);
+    partition::inner::next_present(img, array.0, 128, after)
 }
 
 // Used slot k, counted from 0; 0 where k is not below the count.
@@ -66,19 +52,21 @@ pub fn nth_slot(img: &[u8], b: u64, k: u32) -> u32
 }
 
 // Whether a slot's entry is present.
-pub fn slot_present(img: &[u8], b: u64, slot: u32) -> bool
-    requires { ⌜ (roomCheck b (length (now img)) ≡ 0) × (badSlot slot ≡ false) ⌝ }
-    ensures { λ r. ⌜ r ≡ present (tables b (now (img .entry)) .front .array) 0 (slot - 1) ⌝ }
+pub fn slot_present(img: &[u8], b: u64, slot: Slot) -> bool
+    requires { ⌜ (roomCheck b (length (now img)) ≡ 0) × (badSlot (slot .0) ≡ false) ⌝ }
+    ensures { λ r. ⌜ r ≡ present (tables b (now (img .entry)) .front .array) 0 (slot .0 - 1) ⌝ }
 {
-    partition::inner::is_present(img, slot_at(b, slot))
+    let at = tables::inner::slot_place(img.len(), b, false, slot);
+    partition::inner::is_present(img, at.0)
 }
 
 // A slot's record.
-pub fn slot_entry(img: &[u8], b: u64, slot: u32) -> Partition
-    requires { ⌜ (roomCheck b (length (now img)) ≡ 0) × (badSlot slot ≡ false) ⌝ }
-    ensures { λ r. ⌜ r ≡ entryAt (tables b (now (img .entry)) .front .array) (entryPlace 0 (slot - 1)) ⌝ }
+pub fn slot_entry(img: &[u8], b: u64, slot: Slot) -> Partition
+    requires { ⌜ (roomCheck b (length (now img)) ≡ 0) × (badSlot (slot .0) ≡ false) ⌝ }
+    ensures { λ r. ⌜ r ≡ entryAt (tables b (now (img .entry)) .front .array) (entryPlace 0 (slot .0 - 1)) ⌝ }
 {
-    partition::inner::entry_at(img, slot_at(b, slot))
+    let at = tables::inner::slot_place(img.len(), b, false, slot);
+    partition::inner::entry_at(img, at.0)
 }
 
 // The answer where no used slot was found: slot 0 and the zero record.

@@ -53,15 +53,14 @@ pub fn next_used(img: &[u8], b: u64, after: Slot) -> NextPartition
 pub fn read_slot(img: &[u8], b: u64, slot: Slot) -> PartitionRead
     ensures { λ r. ⌜ readMeans r ≡ readingOf (slotRead b (now (img .entry)) (slot .0)) ⌝ }
 {
-    let s = slot.0;
     match checking::check(img, b) {
         Verdict::Refused(w) => partition::inner::refused(w),
         Verdict::Accepted => match slot.array_place(128) {
             ArrayPlace::Refused(w) => partition::inner::refused(w),
             ArrayPlace::At(_k) => PartitionRead {
                 verdict: Verdict::Accepted,
-                present: inner::slot_present(img, b, s),
-                partition: inner::slot_entry(img, b, s),
+                present: inner::slot_present(img, b, slot),
+                partition: inner::slot_entry(img, b, slot),
             },
         },
     }
@@ -82,7 +81,7 @@ pub fn nth_used(img: &[u8], b: u64, k: u32) -> UsedRead
                 verdict: Verdict::Accepted,
                 found: true,
                 slot: Slot(slot),
-                partition: inner::slot_entry(img, b, slot),
+                partition: inner::slot_entry(img, b, Slot(slot)),
             }
         }
     }

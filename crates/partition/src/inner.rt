@@ -213,7 +213,7 @@ pub fn next_present(s: &[u8], at: usize, count: u32, after: u32) -> u32
     let mut k = after;
     while k < count {
         if is_present(s, at + (k as usize) * 128) {
-            return k + 1;
+            return units::inner::slot_at(k).0;
         }
         k += 1;
     }

@@ -1,21 +1,17 @@
 -- `listing::inner::slot_entry` meets its contract. Assumes nothing.
-use Rattle.listing.proofs.Ways.{size-most, entry-inside, entry-read}
+use borrow.Author.Needs.{needs}
+use Rattle.listing.proofs.Ways.{entry-read}
 use Rattle.listing.proofs.inner.slot_entry.Statement.{statement}
 use Rattle.listing.proofs.inner.slot_entry.Tie as tie
 
-slot-at-requires : tie.Need-slot-at-requires
-slot-at-requires c κs = let a = c .before .args in (size-most (a .b) (a .img .now) (c .before .pre .0), c .before .pre .1)
+slot-place-requires : tie.Need-slot-place-requires
+slot-place-requires c κs = search needs
 
 entry-at-requires : tie.Need-entry-at-requires
-entry-at-requires c κs = let a = c .before .before .args in entry-inside (a .b) (a .img .now) (c .before .before .pre .0) (a .slot) (c .before .before .pre .1) (c .slot-at .ensures)
+entry-at-requires c κs = search needs
 
 returns : tie.Need-returns
-returns c = let a = c .before .before .before .args in entry-read (a .b) (a .img .now) (a .slot) (c .before .before .before .pre .1) (c .before .slot-at .ensures) (c .entry-at .ensures)
+returns c = let a = c .before .before .before .args in entry-read (a .b) (a .img .now) (a .slot .0) (c .before .before .before .pre .1) (c .before .slot-place .ensures .0) (c .entry-at .ensures)
 
 pub slot-entry-spec : {M : Type 1} → statement M
-slot-entry-spec =
-    tie.close
-    (tie.spec
-    slot-at-requires
-    entry-at-requires
-    returns)
+slot-entry-spec = tie.close (tie.spec slot-place-requires entry-at-requires returns)

@@ -5,6 +5,7 @@ use Prim.Native.Nat.{ℕ, _+_, _*_, _-_, _≤_}
 use native.Mathlib.Omega.{arith}
 use lib.ListN.{length, getD}
 use borrow.Author.Needs.{needs}
+use Rattle.units.specs.declared.Slot.{Slot}
 use Rattle.partition.specs.Array.{presentFrom, firstSlot}
 use Rattle.partition.proofs.Laws.{from-yes, from-no, from-none}
 use Rattle.partition.proofs.Ways.{inside-filled}
@@ -37,8 +38,8 @@ add-is-present c = omega (arith, within c)
 is-present-requires : tie.Need-is-present-requires Inv-loop μ-loop
 is-present-requires c κs = omega (arith, within c)
 
-add-result : tie.Need-add-result Inv-loop μ-loop
-add-result c = omega arith
+slot-at-requires : tie.Need-slot-at-requires Inv-loop μ-loop
+slot-at-requires c κs = omega arith
 
 -- the first of the slots that are left
 abbrev first : List ℕ → ℕ
@@ -46,9 +47,11 @@ first l = getD l 0 0
 
 returns : tie.Need-returns Inv-loop μ-loop
 returns c =
-    let a = c .before .before .before .before .before .args in
-    let l = c .before .before .before .loop in
-    sym (l .inv ∙ ap first (from-yes (a .s .now) (a .at) (l .k) (a .count) (omega arith) (sym (c .before .is-present .ensures) ∙ c .if1 .taken)))
+    let d = c .before in
+    let l = d .before .before .before .loop in
+    let a = d .before .before .before .before .before .args in
+    ap (λ (x : Slot). x .0) (c .slot-at .ensures)
+    ∙ sym (l .inv ∙ ap first (from-yes (a .s .now) (a .at) (l .k) (a .count) (omega arith) (sym (d .before .is-present .ensures) ∙ d .if1 .taken)))
 
 add-k : tie.Need-add-k Inv-loop μ-loop
 add-k c = omega arith
@@ -79,7 +82,7 @@ next-present-spec =
     mul-is-present
     add-is-present
     is-present-requires
-    add-result
+    slot-at-requires
     returns
     add-k
     loop-less

@@ -1,0 +1,2 @@
+-- The laws of the lent listing.
+pub mod Laws

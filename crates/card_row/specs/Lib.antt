@@ -1,0 +1,2 @@
+-- The definition that the contract of `listing` cites.
+pub mod Listing

@@ -1,0 +1,97 @@
+// The words of a line: texts, numbers, and what a call answered.
+use libc::STDOUT_FILENO;
+use units::Refusal;
+use units::Stored;
+use units::Verdict;
+
+pub fn text(s: &[u8]) {
+    io::write_all(STDOUT_FILENO, s);
+}
+
+// A text and a number after it.
+pub fn number(before: &[u8], n: u64) {
+    text(before);
+    io::print_decimal(STDOUT_FILENO, n);
+}
+
+// The start of a line: the block size, and what is done.
+pub fn start(b: u64, what: &[u8]) {
+    number(b"", b);
+    text(b": ");
+    text(what);
+}
+
+// A whole line with a check sum.
+pub fn sum(b: u64, what: &[u8], sum: u32) {
+    start(b, what);
+    io::print_hex(STDOUT_FILENO, sum as u64, 8);
+    text(b"\n");
+}
+
+// A whole line that is answered by yes or no.
+pub fn yes(b: u64, what: &[u8], is: bool) {
+    start(b, what);
+    if is {
+        text(b": yes\n");
+    } else {
+        text(b": no\n");
+    }
+}
+
+// A space and a unit of a name, in hexadecimal digits.
+pub fn unit(u: u16) {
+    text(b" ");
+    io::print_hex(STDOUT_FILENO, u as u64, 4);
+}
+
+// How many bytes.
+pub fn bytes(before: &[u8], n: usize) {
+    number(before, n as u64);
+    if n == 1 {
+        text(b" byte");
+    } else {
+        text(b" bytes");
+    }
+}
+
+// The end of a line: whether the image is as it was before.
+pub fn unchanged(is: bool) {
+    if is {
+        text(b", unchanged\n");
+    } else {
+        text(b", changed\n");
+    }
+}
+
+// A refusal's number, and the slot that it carries.
+pub fn refused(w: Refusal) {
+    number(b": refused ", w.number() as u64);
+    if let Refusal::Overlap(slot) = w {
+        number(b", slot ", slot.0 as u64);
+    }
+}
+
+// The end of a line: accepted, or refused and whether the image is as it was.
+pub fn verdict(v: Verdict, same: bool) {
+    match v {
+        Verdict::Accepted => text(b": accepted\n"),
+        Verdict::Refused(w) => {
+            refused(w);
+            unchanged(same);
+        }
+    }
+}
+
+// The same of a payload write, with the bytes that it says it stored.
+pub fn stored(v: Stored, same: bool) {
+    match v {
+        Stored::Bytes(n) => {
+            bytes(b": accepted, ", n);
+            text(b"\n");
+        }
+        Stored::Refused(w) => {
+            refused(w);
+            unchanged(same);
+        }
+    }
+}

@@ -1,0 +1,232 @@
+-- The laws of a plan and of the row that it fills: what each way of making a plan gives, how the entries that are left are taken one by one, and what the row holds at the end.
+-- No contract cites this file. Assumes nothing.
+use mathlib.Core.Path.{_≡_, refl, sym, ap, _∙_}
+use mathlib.Core.Bool.{Bool, true, false}
+use mathlib.Core.List.{List, [], _∷_, _++_, map}
+use Prim.Native.Nat.{ℕ, zero, suc, _+_, _*_, _-_, _≤_, _<_}
+use native.Mathlib.Nat.{sub-zero}
+use native.Mathlib.Omega.{arith}
+use lib.Dec.{ltb}
+use lib.ListN.{length, drop, getD}
+use borrow.Author.Tests.{ltb-false, lt-ltb, le-ltb}
+use Rattle.units.specs.declared.BytePlace.{BytePlace}
+use Rattle.units.specs.declared.Slot.{Slot}
+use Rattle.units.specs.declared.Refusal.{Refusal}
+use Rattle.units.specs.declared.Refusal.the-variants as refusal
+use Rattle.units.specs.declared.Verdict.the-variants as verdict
+use Rattle.units.specs.Answer.{Why, Answer, accepted, refused, refuse, pick, andThen}
+use Rattle.units.specs.Places.{insideOrEmpty}
+use Rattle.units.specs.Refusals.{why, refusedBy}
+use Rattle.units.specs.Meanings.{verdictMeans}
+use Rattle.units.proofs.Laws.{by-pick}
+use Rattle.header.specs.declared.Header.{Header}
+use Rattle.partition.specs.declared.Partition.{Partition}
+use Rattle.partition.specs.Format.{entryAt}
+use Rattle.partition.specs.Array.{entryPlace, present, presentFrom, firstSlot, arrayFound}
+use Rattle.partition.proofs.Ways.{inside-filled}
+use Rattle.rows.specs.declared.Entry.{Entry}
+use Rattle.rows.specs.declared.inner.Plan.{Plan}
+use Rattle.rows.specs.Row.{entryOf, presentEntries, partitionsRead, RowOutcome, rowOutcome, RowEnds}
+use Rattle.rows.specs.Plans.{Lies, InArray, Made, entriesBy, entryBy, slotAfter, planned, noPlan, planWithin, roomed, countBy, entriesFound}
+
+pub length-map : {A B : Type 0} (f : A → B) (l : List A) → length (map f l) ≡ length l
+length-map f [] = refl
+length-map f (x ∷ l) = ap suc (length-map f l)
+
+-- as many entries as present slots
+pub length-present : (xs : List ℕ) (at n : ℕ) → length (presentEntries xs at n) ≡ length (presentFrom xs at 0 n)
+unfolding presentEntries
+length-present xs at n = length-map (entryOf xs at) (presentFrom xs at 0 n)
+
+-- an array of no entries has none present
+pub no-entries : (xs : List ℕ) (at n : ℕ) → n ≡ 0 → presentEntries xs at n ≡ []
+unfolding presentEntries presentFrom
+no-entries xs at n e = rw e
+
+-- ---- plans
+
+module _ (xs : List ℕ) where
+  pub made-none : (w : Refusal) → Made xs (noPlan w)
+  unfolding insideOrEmpty entriesBy presentEntries presentFrom
+  made-none w = record { lies = refl; counted = refl; idle = λ e. refl }
+
+  pub planned-none : (w : Refusal) → planned xs (noPlan w) ≡ refusedBy w
+  unfolding planned
+  planned-none w = refl
+
+  -- the plan that lists an array
+  module _ (at : BytePlace) (n k : ℕ) (i : insideOrEmpty (length xs) (at .0) (n * 128) ≡ true) (e : k ≡ length (presentFrom xs (at .0) 0 n)) where
+    abbrev listing : Plan
+    listing = record { place = at; entries = n; present = k; verdict = verdict.Accepted }
+
+    pub made-listing : Made xs listing × (planned xs listing ≡ accepted (presentEntries xs (at .0) n))
+    unfolding entriesBy planned
+    made-listing =
+        (record { lies = i; counted = e ∙ sym (length-present xs (at .0) n); idle = λ f. absurd (let z : _≡_ {A = ℕ} 0 1 = cc in omega arith) }, refl)
+
+  -- the array that a header names
+  module _ (h : Header) (b : ℕ) {p : Plan} where
+    pub found-refused : {w : Refusal} → arrayFound xs h b ≡ refusedBy w → p ≡ noPlan w → Made xs p × (planned xs p ≡ entriesFound xs h b)
+    unfolding entriesFound
+    found-refused {w} e f = rw (f, e) (made-none w, planned-none w)
+
+    pub found-listed : {at : BytePlace} → arrayFound xs h b ≡ accepted at
+        → Made xs p × (planned xs p ≡ accepted (presentEntries xs (at .0) (h .«num_parts»)))
+        → Made xs p × (planned xs p ≡ entriesFound xs h b)
+    unfolding entriesFound
+    found-listed e f = rw e f
+
+-- ---- a plan for a row of m places
+
+module _ (m : ℕ) (p : Plan) where
+  pub within-over : m < p .present → noPlan refusal.NoRoom ≡ planWithin m p
+  unfolding planWithin
+  within-over l = rw (lt-ltb m (p .present) l)
+
+  pub within-kept : p .present ≤ m → p ≡ planWithin m p
+  unfolding planWithin
+  within-kept l = rw (le-ltb m (p .present) l)
+
+  pub within-fits : planWithin m p .present ≤ m
+  unfolding planWithin
+  within-fits = by-pick (λ (q : Plan). q .present ≤ m) (ltb m (p .present)) _ _ (λ _. omega arith) (λ e. ltb-false m (p .present) e)
+
+  module _ (xs : List ℕ) (d : Made xs p) where
+    pub made-within : Made xs (planWithin m p)
+    unfolding planWithin
+    made-within = by-pick (Made xs) (ltb m (p .present)) _ _ (λ _. made-none xs refusal.NoRoom) (λ _. d)
+
+    -- a plan that refuses has no entries
+    none-refused : {w : Why} → verdictMeans (p .verdict) ≡ refused w → p .present ≡ 0
+    unfolding entriesBy
+    none-refused e = d .counted ∙ ap length (no-entries xs (p .place .0) (p .entries) (d .idle e))
+
+    -- so no row is too short for it, and 15 is that of what the plan says
+    pub planned-within : planned xs (planWithin m p) ≡ roomed m (planned xs p)
+    unfolding planWithin planned roomed
+    planned-within = go (verdictMeans (p .verdict)) refl
+      where
+        said : Plan → Answer (List Entry)
+        said q = andThen (verdictMeans (q .verdict)) (λ u. accepted (entriesBy xs q))
+
+        Q : Plan → Type 0
+        Q q = said q ≡ andThen (said p) (λ l. pick (ltb m (length l)) (refuse 15) (accepted l))
+
+        go : (v : Answer Unit) → verdictMeans (p .verdict) ≡ v → Q (pick (ltb m (p .present)) (noPlan refusal.NoRoom) p)
+        go (accepted u) e =
+            let f : ltb m (length (entriesBy xs p)) ≡ ltb m (p .present) = ap (ltb m) (sym (d .counted)) in
+            by-pick Q (ltb m (p .present)) _ _ (λ t. rw (e, f, t)) (λ t. rw (e, f, t))
+        go (refused w) e =
+            let f : p .present ≤ m = omega (arith, none-refused e) in
+            rw (le-ltb m (p .present) f, e)
+
+-- ---- what is answered
+
+module _ (p : Plan) where
+  pub counts-present : verdictMeans (p .verdict) ≡ accepted tt → accepted (p .present) ≡ countBy p
+  unfolding countBy
+  counts-present e = rw e
+
+  pub counts-refused : {w : Why} → verdictMeans (p .verdict) ≡ refused w → refused w ≡ countBy p
+  unfolding countBy
+  counts-refused e = rw e
+
+-- ---- one entry
+
+module _ (xs : List ℕ) (p : Plan) (s : Slot) (l : Lies xs p) (i : InArray p s) where
+  -- an array with a slot ends inside the image, and so does the entry in the slot
+  pub array-ends : p .place .0 + p .entries * 128 ≤ length xs
+  array-ends = inside-filled (length xs) (p .place .0) (p .entries * 128) l (λ z. omega arith)
+
+  pub entry-ends : {a : ℕ} → a ≡ entryPlace (p .place .0) (s .0 - 1) → a + 128 ≤ length xs
+  entry-ends e = omega (arith, array-ends)
+
+  pub entry-read : {a : ℕ} {q : Partition} → a ≡ entryPlace (p .place .0) (s .0 - 1) → q ≡ entryAt xs a → record { slot = s; partition = q } ≡ entryBy xs p s
+  unfolding entryOf
+  entry-read {a} {q} e f = let g : q ≡ entryAt xs (entryPlace (p .place .0) (s .0 - 1)) = f ∙ ap (λ (k : ℕ). entryAt xs k) e in ap (λ (k : Partition). record { slot = s; partition = k }) g
+
+-- ---- the entries that are left after a slot, one by one
+
+-- a slot that is present comes before those after it
+from-step : (xs : List ℕ) (at j k n : ℕ) → length (presentFrom xs at k n) ≡ suc j
+    → let s : ℕ = getD (presentFrom xs at k n) 0 0 in (presentFrom xs at k n ≡ s ∷ presentFrom xs at s (k + n - s)) × (k < s) × (s ≤ k + n)
+unfolding presentFrom
+from-step xs at j k zero e = absurd (let z : _≡_ {A = ℕ} 0 (suc j) = e in omega arith)
+from-step xs at j k (suc n) e = go (present xs at k) e (from-step xs at j (k + 1) n)
+  where
+    l : List ℕ
+    l = presentFrom xs at (k + 1) n
+
+    -- the first of a list, and what is past it
+    First : ℕ → List ℕ → Type 0
+    First i m = let s : ℕ = getD m 0 0 in (m ≡ s ∷ presentFrom xs at s (k + suc n - s)) × (i < s) × (s ≤ k + suc n)
+
+    go : (t : Bool) → length (pick t ((k + 1) ∷ l) l) ≡ suc j
+        → (length l ≡ suc j → (l ≡ getD l 0 0 ∷ presentFrom xs at (getD l 0 0) (k + 1 + n - getD l 0 0)) × (k + 1 < getD l 0 0) × (getD l 0 0 ≤ k + 1 + n))
+        → First k (pick t ((k + 1) ∷ l) l)
+    go true f g =
+        let m : k + suc n - (k + 1) ≡ n = omega arith in
+        (ap (λ (i : ℕ). (k + 1) ∷ presentFrom xs at (k + 1) i) (sym m), omega arith, omega arith)
+    go false f g =
+        let r = g f in
+        let m : k + 1 + n ≡ k + suc n = omega arith in
+        (rw m at (r .0), omega (arith, r .1), omega (arith, r .2))
+
+module _ (xs : List ℕ) (p : Plan) where
+  -- the present entries after slot s
+  unfoldable pub left : Slot → List Entry
+  left s = map (entryOf xs (p .place .0)) (presentFrom xs (p .place .0) (s .0) (p .entries - s .0))
+
+  -- slot 0 stands before the first
+  pub left-all : left (record { 0 = 0 }) ≡ entriesBy xs p
+  unfolding left entriesBy presentEntries
+  left-all = rw sub-zero
+
+  -- where any are left, the next slot is one of the array's, and its entry is the first of them
+  pub left-step : (s : Slot) (j : ℕ) → length (left s) ≡ suc j
+      → InArray p (slotAfter xs p s) × (left s ≡ entryBy xs p (slotAfter xs p s) ∷ left (slotAfter xs p s))
+  unfolding left slotAfter firstSlot
+  left-step s j e =
+      let at : ℕ = p .place .0 in
+      let n : ℕ = p .entries - s .0 in
+      let f : length (presentFrom xs at (s .0) n) ≡ suc j = sym (length-map (entryOf xs at) (presentFrom xs at (s .0) n)) ∙ e in
+      let r = from-step xs at j (s .0) n f in
+      let t : ℕ = getD (presentFrom xs at (s .0) n) 0 0 in
+      let m : s .0 + n - t ≡ p .entries - t = omega (arith, r .1, r .2) in
+      ((omega (arith, r .1), omega (arith, r .1, r .2)), ap (map (entryOf xs at)) (r .0 ∙ ap (λ (i : ℕ). t ∷ presentFrom xs at t i) m))
+
+-- ---- the row at the end
+
+-- what a plan and its row come to
+row-by : (xs : List ℕ) (q : Plan) (row : List Entry) → Made xs q → {a : Answer ℕ} {ys : List Entry}
+    → a ≡ countBy q → ys ≡ entriesBy xs q ++ drop (length (entriesBy xs q)) row → RowEnds (rowOutcome (planned xs q) row) a ys
+unfolding countBy planned rowOutcome entriesBy
+row-by xs q row d {a} {ys} e f = go (verdictMeans (q .verdict)) refl
+  where
+    es : List Entry
+    es = entriesBy xs q
+
+    go : (v : Answer Unit) → verdictMeans (q .verdict) ≡ v → RowEnds (rowOutcome (andThen (verdictMeans (q .verdict)) (λ u. accepted es)) row) a ys
+    go (accepted u) g = rw g (record { answer = (rw g at e) ∙ ap accepted (d .counted); row = f })
+    go (refused w) g =
+        let n : es ≡ [] = no-entries xs (q .place .0) (q .entries) (d .idle g) in
+        rw g (record { answer = rw g at e; row = rw n at f })
+
+pub row-ends : (xs : List ℕ) (p : Plan) (row : List Entry) → Made xs p → {q : Plan} {a : Answer ℕ} {ys : List Entry}
+    → q ≡ planWithin (length row) p → a ≡ countBy q → ys ≡ entriesBy xs q ++ drop (length (entriesBy xs q)) row
+    → RowEnds (rowOutcome (roomed (length row) (planned xs p)) row) a ys
+row-ends xs p row d {q} e f g =
+    let m : Made xs q = rw e (made-within (length row) p xs d) in
+    let s : planned xs q ≡ roomed (length row) (planned xs p) = ap (planned xs) e ∙ planned-within (length row) p xs d in
+    rw (← s) (row-by xs q row m f g)
+
+-- ---- the header's array: what is found before a row is lent, with the row's 15
+pub found-within : (xs : List ℕ) (h : Header) (b m : ℕ) → roomed m (entriesFound xs h b) ≡ partitionsRead xs h b m
+unfolding roomed entriesFound partitionsRead
+found-within xs h b m = go (arrayFound xs h b)
+  where
+    go : (a : Answer BytePlace)
+        → andThen (andThen a (λ at. accepted (presentEntries xs (at .0) (h .«num_parts»)))) (λ es. pick (ltb m (length es)) (refuse 15) (accepted es))
+        ≡ andThen a (λ at. pick (ltb m (length (presentFrom xs (at .0) 0 (h .«num_parts»)))) (refuse 15) (accepted (presentEntries xs (at .0) (h .«num_parts»))))
+    go (refused w) = refl
+    go (accepted at) = rw (length-present xs (at .0) (h .«num_parts»))

@@ -1,0 +1,69 @@
+-- A reading before a row is lent to it: a plan by value, which says where the array stands, how many of its entries are present, and whether the reading accepts.
+-- Every call that fills a row makes such a plan; only 15 depends on the row. From document 01, "Reading the array" and "Listing". Assumes nothing.
+use mathlib.Core.Path.{_≡_}
+use mathlib.Core.Bool.{true}
+use mathlib.Core.List.{List}
+use Prim.Native.Nat.{ℕ, _*_, _≤_}
+use lib.Dec.{ltb}
+use lib.ListN.{length}
+use Rattle.units.specs.declared.Slot.{Slot}
+use Rattle.units.specs.declared.Verdict.the-variants as verdict
+use Rattle.units.specs.declared.Refusal.{Refusal}
+use Rattle.units.specs.declared.Refusal.the-variants as refusal
+use Rattle.units.specs.Answer.{Why, Answer, accepted, refused, refuse, pick, andThen}
+use Rattle.units.specs.Places.{insideOrEmpty}
+use Rattle.units.specs.Meanings.{verdictMeans}
+use Rattle.header.specs.declared.Header.{Header}
+use Rattle.partition.specs.Array.{firstSlot, arrayFound}
+use Rattle.rows.specs.declared.Entry.{Entry}
+use Rattle.rows.specs.declared.inner.Plan.{Plan}
+use Rattle.rows.specs.Row.{entryOf, presentEntries}
+
+-- the plan's array lies inside the image, or has no entries
+abbrev pub Lies : List ℕ → Plan → Type 0
+Lies xs p = insideOrEmpty (length xs) (p .place .0) (p .entries * 128) ≡ true
+
+-- the present entries of the plan's array
+unfoldable pub entriesBy : List ℕ → Plan → List Entry
+entriesBy xs p = presentEntries xs (p .place .0) (p .entries)
+
+-- a slot of the plan's array, and the entry in it
+abbrev pub InArray : Plan → Slot → Type 0
+InArray p s = (1 ≤ s .0) × (s .0 ≤ p .entries)
+
+abbrev pub entryBy : List ℕ → Plan → Slot → Entry
+entryBy xs p s = entryOf xs (p .place .0) (s .0)
+
+-- the first present slot after a slot, or slot 0
+unfoldable pub slotAfter : List ℕ → Plan → Slot → Slot
+slotAfter xs p s = record { 0 = firstSlot xs (p .place .0) (p .entries) (s .0) }
+
+-- what a plan says of its image: a refusal, or the present entries
+unfoldable pub planned : List ℕ → Plan → Answer (List Entry)
+planned xs p = andThen (verdictMeans (p .verdict)) (λ u. accepted (entriesBy xs p))
+
+-- a plan that was made on an image: its array lies inside, its count is that of the present entries, and a refusal has no entries
+pub record Made (xs : List ℕ) (p : Plan) : Type 0 where
+  pub lies : Lies xs p
+  pub counted : p .present ≡ length (entriesBy xs p)
+  pub idle : {w : Why} → verdictMeans (p .verdict) ≡ refused w → p .entries ≡ 0
+
+-- a refusal's plan
+abbrev pub noPlan : Refusal → Plan
+noPlan w = record { place = record { 0 = 0 }; entries = 0; present = 0; verdict = verdict.Refused w }
+
+-- the plan for a row of m places: 15 where more entries are present
+unfoldable pub planWithin : ℕ → Plan → Plan
+planWithin m p = pick (ltb m (p .present)) (noPlan refusal.NoRoom) p
+
+-- the same of what a plan says
+unfoldable pub roomed : ℕ → Answer (List Entry) → Answer (List Entry)
+roomed m a = andThen a (λ es. pick (ltb m (length es)) (refuse 15) (accepted es))
+
+-- the count, or the refusal
+unfoldable pub countBy : Plan → Answer ℕ
+countBy p = andThen (verdictMeans (p .verdict)) (λ u. accepted (p .present))
+
+-- the present entries of the array that a header names, before a row is lent: 1, 3, 7, 2, 6
+unfoldable pub entriesFound : List ℕ → Header → ℕ → Answer (List Entry)
+entriesFound xs h b = andThen (arrayFound xs h b) (λ at. accepted (presentEntries xs (at .0) (h .«num_parts»)))

@@ -1,0 +1,140 @@
+// Leaves for our own crates: each `requires` is what its caller has tested. No public calls.
+// A reading is first planned by value, which makes every test but that of the row's length; then `fill` fills the row.
+use crate::Entry;
+use header::Header;
+use partition::PartitionCount;
+use units::BytePlace;
+use units::Placed;
+use units::Refusal;
+use units::Slot;
+use units::Verdict;
+ghost use mathlib.Core.Path.{_≡_};
+ghost use mathlib.Core.Bool.{true};
+ghost use Prim.Native.Nat.{_+_, _*_, _-_, _^_, _<_};
+ghost use lib.ListN.{length};
+ghost use Rattle.units.specs.Answer.{accepted};
+ghost use Rattle.units.specs.Places.{insideOrEmpty};
+ghost use Rattle.partition.specs.Array.{entryPlace};
+ghost use Rattle.partition.specs.Meanings.{countMeans};
+ghost use Rattle.rows.specs.Row.{presentEntries, rowOutcome, RowEnds};
+ghost use Rattle.rows.specs.Plans.{Lies, InArray, Made, entryBy, slotAfter, planned, noPlan, planWithin, roomed, countBy, entriesFound};
+
+// Where an array stands and how many entries it has, how many of them are present, and whether the reading accepts. A refusal has no entries.
+pub struct Plan {
+    pub place: BytePlace,
+    pub entries: u32,
+    pub present: u32,
+    pub verdict: Verdict,
+}
+
+impl Plan {
+    pub fn refused(w: Refusal) -> Plan
+        ensures { λ r. ⌜ r ≡ noPlan w ⌝ }
+    {
+        Plan {
+            place: BytePlace(0),
+            entries: 0,
+            present: 0,
+            verdict: Verdict::Refused(w),
+        }
+    }
+
+    // The plan that lists an array which lies inside the image.
+    pub fn listing(img: &[u8], place: BytePlace, entries: u32) -> Plan
+        requires { ⌜ insideOrEmpty (length (now img)) (place .0) (entries * 128) ≡ true ⌝ }
+        ensures { λ r. ⌜ Made (now (img .entry)) r × (planned (now (img .entry)) r ≡ accepted (presentEntries (now (img .entry)) (place .0) entries)) ⌝ }
+    {
+        let at = place.0;
+        let present = partition::inner::count_present(img, at, entries);
+        Plan {
+            place,
+            entries,
+            present,
+            verdict: Verdict::Accepted,
+        }
+    }
+
+    // The plan for a row of so many places: 15.
+    pub fn within(self, room: usize) -> Plan
+        ensures { λ r. ⌜ r ≡ planWithin room self ⌝ }
+    {
+        if room < self.present as usize {
+            return Plan::refused(Refusal::NoRoom);
+        }
+        self
+    }
+
+    // How many places of a row are filled.
+    pub fn places(self) -> usize
+        ensures { λ r. ⌜ r ≡ self .present ⌝ }
+    {
+        self.present as usize
+    }
+
+    pub fn answer(self) -> PartitionCount
+        ensures { λ r. ⌜ countMeans r ≡ countBy self ⌝ }
+    {
+        let verdict = self.verdict;
+        match verdict {
+            Verdict::Accepted => PartitionCount::Present(self.present),
+            Verdict::Refused(w) => PartitionCount::Refused(w),
+        }
+    }
+
+    // Where the entry in a slot of the array stands: slots count from 1, array places from 0.
+    pub fn entry_place(self, s: Slot) -> BytePlace
+        requires { ⌜ InArray self s × (self .place .0 + self .entries * 128 < 2 ^ 64) ⌝ }
+        ensures { λ r. ⌜ r .0 ≡ entryPlace (self .place .0) (s .0 - 1) ⌝ }
+    {
+        let k = s.0 - 1;
+        BytePlace(self.place.0 + (k as usize) * 128)
+    }
+}
+
+// The first present slot after a slot, where slot 0 stands before the first; 0 where there is none.
+pub fn next_slot(img: &[u8], p: Plan, after: Slot) -> Slot
+    requires { ⌜ Lies (now img) p ⌝ }
+    ensures { λ r. ⌜ r ≡ slotAfter (now (img .entry)) p after ⌝ }
+{
+    let at = p.place.0;
+    Slot(partition::inner::next_present(img, at, p.entries, after.0))
+}
+
+// The entry in a slot of the array, by value.
+pub fn entry_in(img: &[u8], p: Plan, s: Slot) -> Entry
+    requires { ⌜ Lies (now img) p × InArray p s ⌝ }
+    ensures { λ r. ⌜ r ≡ entryBy (now (img .entry)) p s ⌝ }
+{
+    let place = p.entry_place(s);
+    let at = place.0;
+    let partition = partition::inner::entry_at(img, at);
+    Entry { slot: s, partition }
+}
+
+// The present entries of the array that a header names: 1, 3, 7, 2, 6.
+pub fn plan_for(img: &[u8], h: Header, b: u64) -> Plan
+    ensures { λ r. ⌜ Made (now (img .entry)) r × (planned (now (img .entry)) r ≡ entriesFound (now (img .entry)) h b) ⌝ }
+{
+    match partition::inner::array_place(img, h, b) {
+        Placed::Refused(w) => Plan::refused(w),
+        Placed::At(at) => Plan::listing(img, at, h.num_parts),
+    }
+}
+
+// Carries a plan out: the planned entries into the first places of the row, or 15 if it is too short; a refusal changes no place.
+pub fn fill(img: &[u8], p: Plan, row: &mut [Entry]) -> PartitionCount
+    requires { ⌜ Made (now img) p ⌝ }
+    ensures { λ r. ⌜ RowEnds (rowOutcome (roomed (length (now (row .entry))) (planned (now (img .entry)) p)) (now (row .entry))) (countMeans r) (now (row .exit)) ⌝ }
+{
+    let n = row.len();
+    let q = p.within(n);
+    let count = q.places();
+    let mut i = 0;
+    let mut at = Slot(0);
+    while i < count {
+        at = next_slot(img, q, at);
+        row[i] = entry_in(img, q, at);
+        i = i + 1;
+    }
+    q.answer()
+}

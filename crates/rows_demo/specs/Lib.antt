@@ -1,0 +1,2 @@
+-- The definitions that the contracts of `rows_demo` cite.
+pub mod Marked
