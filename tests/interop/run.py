@@ -1,0 +1,162 @@
+#!/usr/bin/env python3
+"""Cards that we lay are read and verified by sgdisk, sfdisk, fdisk and parted (sgdisk and sfdisk at 512 alone), and cards that they make are checked, listed and changed by us.
+
+Run by `make interop`, which builds libcard.so first. Every step is a line; a step that fails says what it saw and makes the exit status 1.
+"""
+import os
+import subprocess
+import sys
+import tempfile
+import uuid
+
+ROOT = os.path.dirname(os.path.dirname(os.path.dirname(os.path.abspath(__file__))))
+sys.path.insert(0, os.path.join(ROOT, "hosts", "python"))
+import card  # noqa: E402
+
+os.environ["PATH"] += ":/usr/sbin:/sbin"
+os.environ["LC_ALL"] = "C"
+DISK = uuid.UUID("5a3f1c20-11e7-4b6d-9c04-0242ac110000")
+steps = failures = 0
+
+
+def step(what, ok, saw=""):
+    global steps, failures
+    steps += 1
+    if not ok:
+        failures += 1
+    print(f"{'ok  ' if ok else 'FAIL'} {what}" + (f"\n     {saw.strip()[:600]}" if not ok else ""))
+
+
+def run(*words, text=None, env=None):
+    done = subprocess.run(words, input=text, capture_output=True, text=True, env={**os.environ, **(env or {})})
+    return done.returncode, done.stdout + done.stderr
+
+
+def usable(blocks, size):
+    per = 16384 // size
+    return 2 + per, blocks - per - 2
+
+
+def our_card(blocks, size, used):
+    """A card with slots spread evenly over the usable blocks, the last one up to the last block."""
+    image = bytearray(blocks * size)
+    card.lay(image, size, DISK)
+    first, last = usable(blocks, size)
+    share = (last - first + 1) // used if used else 0
+    for s in range(used):
+        from_block = first + s * share
+        to_block = last if s == used - 1 else from_block + share - 1
+        card.put(image, size, s + 1, card.Record(card.BASIC_DATA, uuid.UUID(int=s + 1), from_block, to_block, 0, f"map {s + 1}"))
+    return image
+
+
+def spans(image, size):
+    return [(e.slot, e.record.first, e.record.last) for e in card.listing(image, size)]
+
+
+def sgdisk_spans(path):
+    lines = run("sgdisk", "-p", path)[1].splitlines()
+    return [tuple(int(w) for w in line.split()[:3]) for line in lines if line.split()[:1] and line.split()[0].isdigit()]
+
+
+def fdisk_spans(path, size):
+    lines = run("fdisk", "-b", str(size), "-l", "-o", "Device,Start,End", path)[1].splitlines()
+    return [(int(w[0][len(path):]), int(w[1]), int(w[2])) for w in (line.split() for line in lines) if len(w) == 3 and w[0].startswith(path)]
+
+
+def parted_spans(path, size):
+    code, said = run("parted", "-s", "-m", path, "unit", "s", "print", env={"PARTED_SECTOR_SIZE": str(size)})
+    if code or ":unknown:" in said:
+        return said
+    return [tuple(int(w.rstrip("s")) for w in line.split(":")[:3]) for line in said.splitlines()[2:]]
+
+
+def accepted_by_all(what, path, image, size):
+    """Every tool reads the file as the card that it is."""
+    with open(path, "wb") as f:
+        f.write(image)
+    want = spans(image, size)
+    if size == 512:
+        code, said = run("sgdisk", "-v", path)
+        step(f"{what}: sgdisk -v finds no problems", code == 0 and "No problems found" in said, said)
+        step(f"{what}: sgdisk -p lists the same slots", sgdisk_spans(path) == want, str(sgdisk_spans(path)[:3]))
+        code, said = run("sfdisk", "--verify", path)
+        step(f"{what}: sfdisk --verify finds no errors", code == 0, said)
+    code, said = run("fdisk", "-b", str(size), "-l", path)
+    step(f"{what}: fdisk -l reads a gpt", code == 0 and "Disklabel type: gpt" in said and "corrupt" not in said, said)
+    step(f"{what}: fdisk -l lists the same slots", fdisk_spans(path, size) == want, str(fdisk_spans(path, size)[:3]))
+    found = parted_spans(path, size)
+    if usable(len(image) // size, size)[0] == usable(len(image) // size, size)[1]:
+        step(f"{what}: parted declines a card with one usable block, as it does with any maker's", isinstance(found, str) and ":unknown:" in found, str(found))
+    else:
+        step(f"{what}: parted lists the same slots", found == want, str(found)[:300])
+
+
+def refusal(call):
+    try:
+        call()
+        return 0
+    except card.Refused as r:
+        return r.number
+
+
+def load(path):
+    with open(path, "rb") as f:
+        return bytearray(f.read())
+
+
+def taken_over(what, path, size, want):
+    """A card of another maker: it checks, lists, takes a put and a clear, and is still accepted."""
+    image = load(path)
+    step(f"{what}: our check accepts it", refusal(lambda: card.check(image, size)) == 0, str(refusal(lambda: card.check(image, size))))
+    step(f"{what}: our listing is theirs", spans(image, size) == want, str(spans(image, size)))
+    taken = [b for _, f, t in want for b in (f, t)]
+    last = usable(len(image) // size, size)[1]
+    record = card.Record(card.BASIC_DATA, uuid.UUID(int=77), last, last, 0, "ours")
+    step(f"{what}: a put over their first slot's block is refused by 22", refusal(lambda: card.put(image, size, 9, card.Record(card.BASIC_DATA, uuid.UUID(int=7), taken[0], taken[0]))) == 22)
+    card.put(image, size, 9, record)
+    card.clear(image, size, want[0][0])
+    accepted_by_all(f"{what}, slot 9 put and slot {want[0][0]} cleared by us", path, image, size)
+    step(f"{what}: and lists both changes", spans(image, size) == want[1:] + [(9, last, last)], str(spans(image, size)))
+
+
+def others(folder):
+    blocks = 2048
+    path = os.path.join(folder, "theirs.img")
+
+    def fresh(size, count):
+        with open(path, "wb") as f:
+            f.truncate(count * size)
+
+    fresh(512, blocks)
+    run("sgdisk", "-a", "1", "-o", "-n", "1:40:99", "-n", "2:100:200", "-c", "1:north", path)
+    taken_over("a card that sgdisk made", path, 512, [(1, 40, 99), (2, 100, 200)])
+    fresh(512, blocks)
+    run("sfdisk", path, text="label: gpt\nfirst-lba: 34\nlast-lba: 2014\nstart=50, size=10\nstart=60, size=100\n")
+    taken_over("a small card that sfdisk made", path, 512, [(1, 50, 59), (2, 60, 159)])
+    for size in (512, 4096):
+        fresh(size, blocks)
+        env = {"PARTED_SECTOR_SIZE": str(size)}
+        for words in (("mklabel", "gpt"), ("mkpart", "a", "40s", "99s"), ("mkpart", "b", "100s", "200s")):
+            run("parted", "-s", "-a", "none", path, *words, env=env)
+        taken_over(f"a card that parted made at {size}", path, size, [(1, 40, 99), (2, 100, 200)])
+    fresh(512, 32768)
+    run("sfdisk", path, text="label: gpt\nstart=4096, size=10\n")
+    step("a card of 16 MiB that sfdisk made has first usable 2,048: 16", refusal(lambda: card.check(load(path), 512)) == 16, str(refusal(lambda: card.check(load(path), 512))))
+
+
+def main():
+    with tempfile.TemporaryDirectory() as folder:
+        path = os.path.join(folder, "ours.img")
+        for size, sizes in ((512, (68, 69, 2048, 16384)), (4096, (12, 13, 256, 2048))):
+            for blocks in sizes:
+                room = usable(blocks, size)[1] - usable(blocks, size)[0] + 1
+                for used in sorted({0, 1, min(3, room), min(120, room), min(128, room)}):
+                    accepted_by_all(f"{blocks} blocks of {size}, {used} used", path, our_card(blocks, size, used), size)
+        others(folder)
+    print(f"interop: {steps} steps, {failures} failed")
+    return 1 if failures else 0
+
+
+if __name__ == "__main__":
+    sys.exit(main())
