@@ -63,13 +63,19 @@ CARDS = {
 
 
 def sums():
-    """The images of crates/cases: the smallest card with no slot and with slot 1, and a card of three usable blocks with named slots 4 and 6."""
-    empty = bytes(128)
-    smallest = [(512, 68, []), (512, 68, [entry(1, 34, 34, "")]), (4096, 12, []), (4096, 12, [entry(1, 6, 6, "")])]
-    named = [(size, blocks, [empty] * 3 + [entry(1, first, first, "map\ud800", 2 ** 63 + 1), empty, entry(1, first + 1, first + 2, "A" * 36)])
-             for size, blocks, first in ((512, 70, 34), (4096, 14, 6))]
-    for size, blocks, entries in smallest + named:
+    """The images of crates/cases: the smallest card with no slot and with slot 1; a card of three usable blocks with named slots 4 and 6, and with slots 1 and 2."""
+    def show(size, blocks, entries):
         print("%d: sum of the image: %08x" % (size, zlib.crc32(card(blocks, size, entries, 0xA5, 100))))
+
+    empty = bytes(128)
+    for size, blocks, first in ((512, 68, 34), (4096, 12, 6)):
+        show(size, blocks, [])
+        show(size, blocks, [entry(1, first, first, "")])
+    for size, blocks, first in ((512, 70, 34), (4096, 14, 6)):
+        show(size, blocks, [empty] * 3 + [entry(1, first, first, "map\ud800", 2 ** 63 + 1), empty, entry(1, first + 1, first + 2, "A" * 36)])
+        two = [entry(1, first, first, ""), entry(1, first + 1, first + 2, "")]
+        show(size, blocks, two)
+        show(size, blocks, two)
 
 
 if __name__ == "__main__":

@@ -1,125 +1,94 @@
-// Runs the card calls on images in memory, at both block sizes, and prints what each answers.
+// Runs the card calls on an image in memory, as the script on standard input says, and prints what each answers.
 // The file `stdout` beside the folder `src` was written from document 01; its check sums of whole images come from tests/example/make_card.py.
 mod bytes; // bytes.rt: bytes of an image, changed and looked at
-mod calls; // calls.rt: each call on a line
-mod damage; // damage.rt: one table changed
-mod pairs; // pairs.rt: both tables changed, and the order of the check
-mod say; // say.rt: the words of a line
-mod slots; // slots.rt: a card of three usable blocks
-mod small; // small.rt: the smallest card
+mod commands; // commands.rt: the commands that print a line
+mod every; // every.rt: one of them, of all calls
+mod say; // say.rt: the words of an answer
+mod script; // script.rt: the words of the script
 
-use small::Small;
-use units::Lba;
-ghost use Prim.Native.Nat.{_≤_};
+use libc::STDIN_FILENO;
 
-// A card of three usable blocks: the block size, its blocks in ascending order, and how many bytes a header's block has after the header. The first block
-// above the usable ones is the backup array's.
-pub struct Shape {
-    pub b: u64,
-    pub below: Lba,
-    pub first: Lba,
-    pub second: Lba,
-    pub third: Lba,
-    pub above: Lba,
-    pub backup: Lba,
-    pub after_header: usize,
+// The block size, and how many bytes of the space are the image.
+struct Image {
+    b: u64,
+    n: usize,
 }
 
-// Every call on an image that is too short, or with a bad block size.
-fn short_image(img: &mut [u8], b: u64) {
-    calls::lay(img, b);
-    say::start(b, b"on");
-    say::bytes(b" ", img.len());
-    calls::all(img, b);
+// A command that only looks at the image.
+fn look(img: &[u8], b: u64, line: &[u8]) {
+    match script::command(line) {
+        b'u' => commands::used(img, b),
+        b'a' => commands::after(img, b, line),
+        b'g' => commands::get(img, b, line),
+        b'r' => commands::read(img, b, line),
+        b'd' => say::sum(crc32::crc32(img)),
+        b'h' => commands::holds(img, b, line),
+        b'm' => commands::mbr(img, b),
+        _ => say::text(b": unknown\n"),
+    }
 }
 
-fn short(n: usize, b: u64)
-    requires { ⌜ n ≤ 49152 ⌝ }
-{
-    let mut img = [0xA5; 49152];
-    short_image(&mut img[..n], b);
+// A command that prints a line.
+fn show(img: &mut [u8], b: u64, line: &[u8]) {
+    say::start(b, line);
+    match script::command(line) {
+        b'l' => commands::lay(img, b),
+        b'p' => commands::put(img, b, line),
+        b'n' => commands::nil_put(img, b, line),
+        b'c' => commands::clear(img, b, line),
+        b'w' => commands::write(img, b, line),
+        b'e' => every::call(img, b),
+        _ => look(img, b, line),
+    }
 }
 
-// 1, 8, 10.
-fn room() {
-    short(0, 0);
-    short(34816, 1024);
-    short(0, 512);
-    short(1535, 512);
-    short(1536, 512);
-    short(34815, 512);
-    short(12287, 4096);
-    short(12288, 4096);
-    short(49151, 4096);
+// A command of the image. Nothing is printed for a changed byte (flip), for sums made right (seal, table), for a comment and for an empty line.
+fn act(img: &mut [u8], b: u64, line: &[u8]) {
+    match script::command(line) {
+        b'f' => bytes::flip(img, b, line),
+        b's' => bytes::seal(img, b, line),
+        b't' => bytes::seal_table(img, b, line),
+        0 | b'#' => {}
+        _ => show(img, b, line),
+    }
 }
 
-// 68 blocks, and 100 bytes.
-fn smallest_512() {
-    let mut img = [0xA5; 34916];
-    let s = Small {
-        b: 512,
-        size: 512,
-        usable: Lba(34),
-        end: Lba(68),
-    };
-    small::run(&mut img, s);
+// A new image, whose bytes are all A5 hexadecimal: how many it has, and its block size.
+fn new_image(space: &mut [u8], line: &[u8]) -> Image {
+    say::text(line);
+    say::text(b"\n");
+    bytes::fill(space, 0xA5);
+    Image {
+        b: script::number(line, 1),
+        n: script::count(line, 0),
+    }
 }
 
-// 12 blocks, and 100 bytes.
-fn smallest_4096() {
-    let mut img = [0xA5; 49252];
-    let s = Small {
-        b: 4096,
-        size: 4096,
-        usable: Lba(6),
-        end: Lba(12),
-    };
-    small::run(&mut img, s);
+// One line of the script.
+fn step(space: &mut [u8], image: Image, line: &[u8]) -> Image {
+    if script::command(line) == b'i' {
+        return new_image(space, line);
+    }
+    let n = image.n;
+    if n <= space.len() {
+        act(&mut space[..n], image.b, line);
+    }
+    image
 }
 
-fn three(img: &mut [u8], s: Shape) {
-    slots::run(img, s);
-    damage::table(img, s, b"primary", Lba(1), Lba(2));
-    damage::table(img, s, b"backup", s.backup, s.above);
-    pairs::run(img, s);
-}
-
-// 70 blocks, and 100 bytes.
-fn three_512() {
-    let mut img = [0xA5; 35940];
-    let s = Shape {
-        b: 512,
-        below: Lba(33),
-        first: Lba(34),
-        second: Lba(35),
-        third: Lba(36),
-        above: Lba(37),
-        backup: Lba(69),
-        after_header: 420,
-    };
-    three(&mut img, s);
-}
-
-// 14 blocks, and 100 bytes.
-fn three_4096() {
-    let mut img = [0xA5; 57444];
-    let s = Shape {
-        b: 4096,
-        below: Lba(5),
-        first: Lba(6),
-        second: Lba(7),
-        third: Lba(8),
-        above: Lba(9),
-        backup: Lba(13),
-        after_header: 4004,
-    };
-    three(&mut img, s);
+fn run(space: &mut [u8], s: &[u8]) {
+    let mut image = Image { b: 512, n: 0 };
+    let mut at = 0;
+    while at < s.len() {
+        let end = script::line_end(s, at);
+        image = step(space, image, &s[at..end]);
+        at = end + 1;
+    }
 }
 
 fn main() {
-    room();
-    smallest_512();
-    smallest_4096();
-    three_512();
-    three_4096();
+    let mut space = [0xA5; 57444];
+    let mut buf = io::large_buffer();
+    let n = io::read_full(STDIN_FILENO, &mut buf);
+    run(&mut space, &buf[..n]);
 }

@@ -1,4 +1,4 @@
-// The words of a line: texts, numbers, and what a call answered.
+// The words of an answer.
 use libc::STDOUT_FILENO;
 use units::Refusal;
 use units::Stored;
@@ -14,28 +14,11 @@ pub fn number(before: &[u8], n: u64) {
     io::print_decimal(STDOUT_FILENO, n);
 }
 
-// The start of a line: the block size, and what is done.
-pub fn start(b: u64, what: &[u8]) {
+// The start of a line: the block size, and the command as the script has it.
+pub fn start(b: u64, line: &[u8]) {
     number(b"", b);
     text(b": ");
-    text(what);
-}
-
-// A whole line with a check sum.
-pub fn sum(b: u64, what: &[u8], sum: u32) {
-    start(b, what);
-    io::print_hex(STDOUT_FILENO, sum as u64, 8);
-    text(b"\n");
-}
-
-// A whole line that is answered by yes or no.
-pub fn yes(b: u64, what: &[u8], is: bool) {
-    start(b, what);
-    if is {
-        text(b": yes\n");
-    } else {
-        text(b": no\n");
-    }
+    text(line);
 }
 
 // A space and a unit of a name, in hexadecimal digits.
@@ -44,13 +27,19 @@ pub fn unit(u: u16) {
     io::print_hex(STDOUT_FILENO, u as u64, 4);
 }
 
-// How many bytes.
-pub fn bytes(before: &[u8], n: usize) {
-    number(before, n as u64);
-    if n == 1 {
-        text(b" byte");
+// The end of a line: a check sum.
+pub fn sum(sum: u32) {
+    text(b": ");
+    io::print_hex(STDOUT_FILENO, sum as u64, 8);
+    text(b"\n");
+}
+
+// The end of a line: yes or no.
+pub fn yes(is: bool) {
+    if is {
+        text(b": yes\n");
     } else {
-        text(b" bytes");
+        text(b": no\n");
     }
 }
 
@@ -86,8 +75,8 @@ pub fn verdict(v: Verdict, same: bool) {
 pub fn stored(v: Stored, same: bool) {
     match v {
         Stored::Bytes(n) => {
-            bytes(b": accepted, ", n);
-            text(b"\n");
+            number(b": accepted, ", n as u64);
+            text(b" bytes\n");
         }
         Stored::Refused(w) => {
             refused(w);

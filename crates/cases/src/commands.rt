@@ -1,0 +1,187 @@
+// The commands that print a line: each is one card call, or a look at the image. A line has the command as the script has it, and the answer.
+// The image is summed before and after a call, so that a refused one shows that it changed nothing.
+use crate::bytes;
+use crate::say;
+use crate::script;
+use mbr::ProtectiveMbr;
+use mbr::RecordRead;
+use partition::NextPartition;
+use partition::Partition;
+use partition::PartitionCount;
+use units::Guid;
+use units::Slot;
+use units::Tail;
+use units::Verdict;
+
+// The GUIDs here differ in their last byte alone: 0 is the disk's, 1 every partition's.
+fn some_guid(last: u8) -> Guid {
+    Guid {
+        time_low: 0x5A3F_1C20,
+        time_mid: 0x11E7,
+        time_high: 0x4B6D,
+        tail: Tail(0x9C, 0x04, 0x02, 0x42, 0xAC, 0x11, 0x00, last),
+    }
+}
+
+// The type of a basic data partition.
+fn basic_data() -> Guid {
+    Guid {
+        time_low: 0xEBD0_A0A2,
+        time_mid: 0xB9E5,
+        time_high: 0x4433,
+        tail: Tail(0x87, 0xC0, 0x68, 0xB6, 0xB7, 0x26, 0x99, 0xC7),
+    }
+}
+
+pub fn lay(img: &mut [u8], b: u64) {
+    let before = crc32::crc32(img);
+    let v = card::lay(img, b, some_guid(0));
+    say::verdict(v, crc32::crc32(img) == before);
+}
+
+// A record of a type: a slot, first and last block, flags, the name's units.
+fn record(part_type_guid: Guid, line: &[u8]) -> Partition {
+    Partition {
+        part_type_guid,
+        part_guid: some_guid(1),
+        first_lba: script::block(line, 1),
+        last_lba: script::block(line, 2),
+        flags: script::number(line, 3),
+        name: script::name(line),
+    }
+}
+
+fn put_record(img: &mut [u8], b: u64, slot: Slot, p: Partition) {
+    let before = crc32::crc32(img);
+    let v = card::put(img, b, slot, p);
+    say::verdict(v, crc32::crc32(img) == before);
+}
+
+pub fn put(img: &mut [u8], b: u64, line: &[u8]) {
+    put_record(img, b, script::slot(line, 0), record(basic_data(), line));
+}
+
+// A put of a record whose type is nil.
+pub fn nil_put(img: &mut [u8], b: u64, line: &[u8]) {
+    put_record(img, b, script::slot(line, 0), record(Guid::nil(), line));
+}
+
+pub fn clear(img: &mut [u8], b: u64, line: &[u8]) {
+    let before = crc32::crc32(img);
+    let v = card::clear(img, b, script::slot(line, 0));
+    say::verdict(v, crc32::crc32(img) == before);
+}
+
+fn write_bytes(img: &mut [u8], b: u64, line: &[u8], payload: &[u8]) {
+    let before = crc32::crc32(img);
+    let v = card::write_payload(
+        img,
+        b,
+        script::slot(line, 2),
+        script::place(line, 1),
+        payload,
+    );
+    say::stored(v, crc32::crc32(img) == before);
+}
+
+// A payload write: how many bytes, the place, the slot, and the byte that they all are. At most 4,097 are written.
+pub fn write(img: &mut [u8], b: u64, line: &[u8]) {
+    let payload = [script::byte(line, 3); 4097];
+    let n = script::count(line, 0);
+    if n <= 4097 {
+        write_bytes(img, b, line, &payload[..n]);
+    }
+}
+
+pub fn used(img: &[u8], b: u64) {
+    match card::count_used(img, b) {
+        PartitionCount::Present(n) => say::number(b": ", n as u64),
+        PartitionCount::Refused(w) => say::refused(w),
+    }
+    say::text(b"\n");
+}
+
+// The next used slot after one.
+pub fn after(img: &[u8], b: u64, line: &[u8]) {
+    match card::next_used(img, b, script::slot(line, 0)) {
+        NextPartition::At(next) => say::number(b": slot ", next.0 as u64),
+        NextPartition::NoMore => say::text(b": none"),
+        NextPartition::Refused(w) => say::refused(w),
+    }
+    say::text(b"\n");
+}
+
+// A text and the blocks of a record.
+fn blocks(before: &[u8], p: Partition) {
+    say::number(before, p.first_lba.0);
+    say::number(b" to ", p.last_lba.0);
+}
+
+// A used slot by its number among the used ones, counted from 0.
+pub fn get(img: &[u8], b: u64, line: &[u8]) {
+    let r = card::nth_used(img, b, script::slot(line, 0).0);
+    let p = r.partition;
+    if r.found {
+        say::number(b": slot ", r.slot.0 as u64);
+        blocks(b", blocks ", p);
+    } else {
+        say::text(b": none");
+    }
+    say::text(b"\n");
+}
+
+// The units of a name, in hexadecimal digits.
+fn units_of(name: [u16; 36]) {
+    let mut i = 0;
+    while i < 36 {
+        say::unit(name[i]);
+        i += 1;
+    }
+}
+
+fn whole(p: Partition) {
+    blocks(b": blocks ", p);
+    say::number(b", flags ", p.flags);
+    say::text(b", name");
+    let name = p.name;
+    units_of(name);
+}
+
+fn absent(v: Verdict) {
+    match v {
+        Verdict::Accepted => say::text(b": empty"),
+        Verdict::Refused(w) => say::refused(w),
+    }
+}
+
+// What a slot holds.
+pub fn read(img: &[u8], b: u64, line: &[u8]) {
+    let r = card::read_slot(img, b, script::slot(line, 0));
+    let v = r.verdict;
+    let p = r.partition;
+    if r.present {
+        whole(p);
+    } else {
+        absent(v);
+    }
+    say::text(b"\n");
+}
+
+// Whether so many bytes from a byte of a block on are all the same.
+pub fn holds(img: &[u8], b: u64, line: &[u8]) {
+    let at = bytes::place(script::block(line, 2), b, script::count(line, 1));
+    say::yes(bytes::filled(img, at, script::count(line, 0), script::byte(line, 3)));
+}
+
+// The first record of the protective MBR.
+pub fn mbr(img: &[u8], b: u64) {
+    match ProtectiveMbr::from_image(img, b).mbr.partition(0) {
+        RecordRead::Refused(w) => say::refused(w),
+        RecordRead::Read(p) => {
+            say::number(b": type ", p.os_type as u64);
+            say::number(b", first block ", p.lb_start as u64);
+            say::number(b", blocks ", p.lb_size as u64);
+        }
+    }
+    say::text(b"\n");
+}
