@@ -213,4 +213,6 @@ if __name__ == "__main__":
 
     sys.modules["card"] = sys.modules["__main__"]
     Refused.__module__ = "card"
-    raise SystemExit(1 if doctest.testmod().failed else 0)
+    result = doctest.testmod()
+    print(f"card.py: {result.attempted} examples, {result.failed} failed")
+    raise SystemExit(1 if result.failed else 0)

@@ -1,0 +1,39 @@
+#!/bin/sh
+# The tests that need more than Rattle: each runs where this machine has what it needs, and is named as skipped where it has not. A test that fails stops with its output.
+cd "$(dirname "$0")/.." || exit 1
+mkdir -p target
+PATH=$PATH:/usr/sbin:/sbin
+ran=0
+skipped=0
+
+has() {
+    for word in "$@"; do
+        command -v "$word" >/dev/null 2>&1 || { missing=$word; return 1; }
+    done
+}
+
+# run TARGET WHAT NEEDS..: make TARGET, if the commands NEEDS are there.
+run() {
+    target=$1
+    what=$2
+    shift 2
+    if ! has "$@"; then
+        echo "outside: $what: SKIPPED, this machine has no $missing"
+        skipped=$((skipped + 1))
+        return
+    fi
+    if ! make -s "$target" >target/outside.log 2>&1; then
+        cat target/outside.log
+        echo "outside: $what: FAILED (make $target)"
+        exit 1
+    fi
+    echo "outside: $what: $(tail -n 1 target/outside.log)"
+    ran=$((ran + 1))
+}
+
+run example "the stored cards are the independent maker's" python3 cmp
+run lib "the library for C" cc
+run boundary "every call across the boundary to C" cc
+run python "the Python module's example" python3 cc
+run interop "cards beside sgdisk, sfdisk, fdisk and parted" python3 cc sgdisk sfdisk fdisk parted
+echo "outside: $ran ran, $skipped skipped"
