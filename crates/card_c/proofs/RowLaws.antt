@@ -1,28 +1,30 @@
 -- The rows of the listing into lent bytes: one row stored, the rows that are left, and the ways out of card_list. No contract cites this file. Assumes nothing.
-use mathlib.Core.Path.{_≡_, refl, sym, ap, _∙_}
+use mathlib.Core.Path.{_≡_, sym, ap, _∙_}
 use mathlib.Core.Bool.{false}
-use mathlib.Core.List.{List, [], _∷_, _++_}
-use Prim.Native.Nat.{ℕ, zero, suc, _+_, _*_, _-_, _/_, _≤_, _<_}
+use mathlib.Core.List.{List, _++_}
+use Prim.Native.Nat.{ℕ, suc, _+_, _*_, _-_, _/_, _≤_, _<_}
 use native.Mathlib.Omega.{arith}
 use borrow.Author.Tests.{lt-ltb, le-ltb}
 use lib.Dec.{ltb}
-use lib.ListN.{length, getD, drop, length-append, length-drop, drop-of-length-le}
-use lib.Seq.{sets, drop-cons}
+use lib.ListN.{length, getD, take, drop, length-append, length-drop, drop-of-length-le}
+use lib.Seq.{sets, drop-cons, take-all, drop-at}
 use Rattle.units.specs.Answer.{gives, Ends}
-use Rattle.units.specs.Bytes.{part, bytes}
+use Rattle.units.specs.Bytes.{part, num, bytes}
 use Rattle.units.proofs.Lists.{length-part, sets-then, and-then}
-use Rattle.units.proofs.Laws.{length-bytes}
-use Rattle.partition.specs.Array.{presentFrom, firstSlot}
+use Rattle.units.proofs.Laws.{length-bytes, num-here}
+use Rattle.partition.specs.Format.{entryAt}
+use Rattle.partition.specs.Array.{entryPlace, presentFrom, firstSlot}
+use Rattle.partition.proofs.Laws as partition
 use Rattle.tables.specs.Checks.{when}
 use Rattle.tables.specs.Lens.{Tables, tablesAt, tables}
 use Rattle.tables.specs.Entries.{entry}
 use Rattle.tables.specs.Check.{roomCheck, check}
 use Rattle.tables.specs.Calls.{badSlot}
-use Rattle.tables.specs.Listing.{presentSlots, listingNumber}
+use Rattle.tables.specs.Listing.{presentSlots, listed, listingNumber}
 use Rattle.tables.proofs.Orders.{else-first, else-skip, else-take, when-none, when-true}
 use Rattle.tables.proofs.State.{settle-accepted, settle-refused}
 use Rattle.tables.proofs.Changes.{slot-ok}
-use Rattle.tables.proofs.Listings.{after-last}
+use Rattle.tables.proofs.Listings.{entry-place, after-last}
 use Rattle.checking.proofs.CheckWays.{entry-part}
 use Rattle.listing.proofs.Ways.{slot-good, first-left, entry-inside}
 use Rattle.card_c.specs.Exports.{told, crossed, countToC}
@@ -48,6 +50,21 @@ module _ (B : ℕ) (xs : List ℕ) (s : ℕ) (k : badSlot s ≡ false) where
   row-length h =
       let e = length-part xs (B + B + 128 * (s - 1)) 128 (entry-inside B xs h s k (omega arith)) in
       omega (arith, length-append (bytes 8 s) (entry (tables B xs .front .array) (s - 1)), length-bytes 8 s, ap length entry-here)
+
+  -- a row reads back: the slot at 0, and at 8 the record that the listing has
+  pub row-slot : num (row (tables B xs) s) 0 8 ≡ s
+  unfolding row
+  row-slot = let q = slot-ok s k in num-here 8 s (entry (tables B xs .front .array) (s - 1)) (omega arith)
+
+  pub row-record : roomCheck B (length xs) ≡ 0 → entryAt (row (tables B xs) s) 8 ≡ listed (tables B xs) s .partition
+  unfolding row
+  row-record h =
+      let e : List ℕ = entry (tables B xs .front .array) (s - 1) in
+      let n = length-part xs (B + B + 128 * (s - 1)) 128 (entry-inside B xs h s k (omega arith)) in
+      sym (partition.entry-part (bytes 8 s ++ e) 8)
+      ∙ ap (λ (l : List ℕ). entryAt l 0)
+      (ap (take 128) (drop-at (bytes 8 s) e 8 (length-bytes 8 s)) ∙ take-all 128 e (omega (arith, ap length entry-here)) ∙ entry-place (tables B xs .front .array) (s - 1))
+      ∙ partition.entry-part (tables B xs .front .array) (entryPlace 0 (s - 1))
 
 -- ---- the loop: i rows are stored, and those of the slots after the last of them are left
 

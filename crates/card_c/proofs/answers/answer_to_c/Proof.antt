@@ -1,5 +1,5 @@
 -- `answers::answer_to_c` meets its contract. Assumes nothing.
-use mathlib.Core.Path.{sym, ap, _∙_}
+use mathlib.Core.Path.{ap}
 use Rattle.units.specs.Meanings.{verdictMeans}
 use Rattle.card_c.proofs.Laws.{answer-fine, answer-no}
 use borrow.Author.Needs.{needs}

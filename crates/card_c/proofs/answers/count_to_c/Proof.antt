@@ -1,5 +1,5 @@
 -- `answers::count_to_c` meets its contract. Assumes nothing.
-use mathlib.Core.Path.{sym, ap, _∙_}
+use mathlib.Core.Path.{ap}
 use Rattle.partition.specs.Meanings.{countMeans}
 use Rattle.card_c.proofs.Laws.{crossed-fine, crossed-no}
 use borrow.Author.Needs.{needs}

@@ -1,5 +1,4 @@
 -- `answers::used_to_c` meets its contract. Assumes nothing.
-use mathlib.Core.Path.{sym, ap, _∙_}
 use Rattle.card_c.specs.Exports.{aside}
 use borrow.Author.Needs.{needs}
 use Rattle.card_c.proofs.answers.used_to_c.Statement.{statement}

@@ -1,5 +1,5 @@
 -- `cards::card_read_slot` meets its contract. Assumes nothing.
-use mathlib.Core.Path.{sym, ap, _∙_}
+use mathlib.Core.Path.{ap, _∙_}
 use Rattle.card_c.specs.Exports.{aside, heldMade}
 use Rattle.card_c.proofs.Laws.{aside-crossed}
 use borrow.Author.Needs.{needs}
