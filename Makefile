@@ -1,8 +1,16 @@
 # The targets of the repository. `make test` is the gate: its last line is rt ci's `N passed, 0 failed`.
-.PHONY: demo test bench clean
+.PHONY: demo sums test bench clean
+
+# Writes the sample card, then lists it.
+demo:
+	@said=$$(rt check sample lister 2>&1 </dev/null) || { echo "$$said"; exit 1; }
+	@echo '$$ target/bin/sample > target/demo.img'
+	@target/bin/sample > target/demo.img
+	@echo '$$ target/bin/lister < target/demo.img'
+	@target/bin/lister < target/demo.img
 
 # Prints the check sums of published vectors and of what is piped in; a terminal counts as no input.
-demo:
+sums:
 	@said=$$(rt check sums 2>&1 </dev/null) || { echo "$$said"; exit 1; }
 	@if [ -t 0 ]; then target/bin/sums </dev/null; else target/bin/sums; fi
 
