@@ -109,7 +109,8 @@ fn blocks(before: &[u8], p: Partition) {
 
 // A used slot by its number among the used ones, counted from 0.
 pub fn get(img: &[u8], b: u64, line: &[u8]) {
-    let r = card::nth_used(img, b, script::slot(line, 0).0);
+    let k = (script::number(line, 0) % 0x1_0000_0000) as u32;
+    let r = card::nth_used(img, b, k);
     let p = r.partition;
     if r.found {
         say::number(b": slot ", r.slot.0 as u64);
