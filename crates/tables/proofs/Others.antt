@@ -20,7 +20,7 @@ use Rattle.tables.specs.Lens.{tablesAt, withTablesAt, Beside}
 use Rattle.tables.specs.Entries.{zeros, entry, firstOf}
 use Rattle.tables.specs.Check.{check}
 use Rattle.tables.specs.Calls.{changed, putNumber, clearNumber, payloadNumber, payloadPlace, putBytes, putAt, clearAt, payloadAt, layOutcome, clearOutcome}
-use Rattle.tables.specs.History.{Op, put, clear, payload, taken, doneAt, call, run, emptySlot, covers, afterByte, toldByte}
+use Rattle.tables.specs.History.{Op, put, clear, payload, taken, doneAt, call, run, emptySlot, after, covers, afterByte, toldByte}
 use Rattle.tables.proofs.Orders.{Outside, side, by-test}
 use Rattle.tables.proofs.Room.{Room}
 use Rattle.tables.proofs.LensLaws.{Whole, with-byte}
@@ -28,7 +28,7 @@ use Rattle.tables.proofs.EntryLaws.{length-zeros, length-set-entry}
 use Rattle.tables.proofs.Good.{room-ok, card-whole}
 use Rattle.tables.proofs.State.{accepted-image, taken-zero, untaken-image, state-front, accepted-good, accepted-array}
 use Rattle.tables.proofs.Changes.{put-ok, clear-check, clear-slot}
-use Rattle.tables.proofs.Payload.{payload-image, pay-fits}
+use Rattle.tables.proofs.Payload.{pays, payload-image, pay-fits}
 use Rattle.tables.proofs.Records.{held-named}
 use Rattle.tables.proofs.Steps.{Holds, slot-first, step, lay-holds}
 
@@ -86,47 +86,50 @@ module _ (B n : ℕ) (xs : List ℕ) (l : length xs ≡ n) (s : ℕ) where
 pub cleared-payload-stays : (B : ℕ) (xs : List ℕ) (s i : ℕ) → Beside B (length xs) i → getD (clearOutcome B xs s .image) i 0 ≡ getD xs i 0
 cleared-payload-stays B xs s i o = clear-beside B (length xs) xs refl s i o
 
-module _ {B n : ℕ} {g xs : List ℕ} {slots : ℕ → Found} (h : Holds B n g slots xs) (i : ℕ) (o : Beside B n i) where
-  l : length xs ≡ n
-  l = h .state .size
-
-  payload-byte : (s a : ℕ) (ys : List ℕ) (t : Bool) → taken (payloadAt B n xs s a ys .answer) ≡ t
-      → getD (payloadAt B n xs s a ys .image) i 0 ≡ afterByte B n t (payload s a ys) xs i (getD xs i 0)
-  unfolding payloadAt
-  payload-byte s a ys true q =
-      let z : payloadNumber B n (tablesAt B n xs) s a (length ys) ≡ 0 = taken-zero (length ys) _ _ _ _ q in
-      ap (λ (x : List ℕ). getD x i 0) (payload-image B n xs l s a ys z) ∙ sets-byte xs _ ys i (pay-fits B n xs l s a ys z)
-  payload-byte s a ys false q = ap (λ (x : List ℕ). getD x i 0) (untaken-image (length ys) _ _ _ _ q)
-
-  -- an accepted put or clear tells a byte nothing, and neither does a refused one
-  untold : (c : Op) (t : Bool) → (afterByte B n true c xs i (getD xs i 0) ≡ getD xs i 0) → afterByte B n t c xs i (getD xs i 0) ≡ getD xs i 0
-  untold c true e = e
-  untold c false e = refl
-
-  byte-at : (c : Op) → getD (doneAt B n c xs .image) i 0 ≡ afterByte B n (doneAt B n c xs .taken) c xs i (getD xs i 0)
-  byte-at (put s p v) =
-      put-beside B n xs l s (putBytes p) (length-entry (named p) (held-named p v .fields .long)) i o ∙ sym (untold (put s p v) (taken (putAt B n xs s (putBytes p) .answer)) refl)
-  byte-at (clear s) = clear-beside B n xs l s i o ∙ sym (untold (clear s) (taken (clearAt B n xs s .answer)) refl)
-  byte-at (payload s a ys) = payload-byte s a ys (taken (payloadAt B n xs s a ys .answer)) refl
-
-  byte-step : (c : Op) → getD (call B c xs .image) i 0 ≡ afterByte B (length xs) (call B c xs .taken) c xs i (getD xs i 0)
-  byte-step c = subst (λ (m : ℕ). getD (doneAt B m c xs .image) i 0 ≡ afterByte B m (doneAt B m c xs .taken) c xs i (getD xs i 0)) (sym l) (byte-at c)
-
 -- a payload write goes to its place in the partition that the slot holds
 pub payload-at : {B n : ℕ} {g xs : List ℕ} {slots : ℕ → Found} → Holds B n g slots xs → (s p : ℕ) → 1 ≤ s → s ≤ 128
     → payloadPlace B (tablesAt B n xs) s p ≡ slots s .partition .«first_lba» .0 * B + p
 payload-at {B} {n} {g} {xs} {slots} h s p a b =
     ap (λ (k : ℕ). k * B + p) (ap (λ (l : List ℕ). firstOf (entry l (s - 1))) (state-front (h .state)) ∙ slot-first h s a b)
 
+module _ {B n : ℕ} {g xs : List ℕ} {slots : ℕ → Found} (h : Holds B n g slots xs) (i : ℕ) (o : Beside B n i) where
+  l : length xs ≡ n
+  l = h .state .size
+
+  payload-byte : (s a : ℕ) (ys : List ℕ) (t : Bool) → taken (payloadAt B n xs s a ys .answer) ≡ t
+      → getD (payloadAt B n xs s a ys .image) i 0 ≡ afterByte B t (payload s a ys) slots i (getD xs i 0)
+  unfolding payloadAt
+  payload-byte s a ys true q =
+      let z : payloadNumber B n (tablesAt B n xs) s a (length ys) ≡ 0 = taken-zero (length ys) _ _ _ _ q in
+      let k = pays B n xs l s a ys z in
+      ap (λ (x : List ℕ). getD x i 0) (payload-image B n xs l s a ys z)
+      ∙ sets-byte xs _ ys i (pay-fits B n xs l s a ys z)
+      ∙ ap (λ (at : ℕ). pick (covers at (length ys) i) (getD ys (i - at) 0) (getD xs i 0)) (payload-at h s a (k .one) (omega (arith, k .one, k .slot)))
+  payload-byte s a ys false q = ap (λ (x : List ℕ). getD x i 0) (untaken-image (length ys) _ _ _ _ q)
+
+  -- an accepted put or clear tells a byte nothing, and neither does a refused one
+  untold : (c : Op) (t : Bool) → (afterByte B true c slots i (getD xs i 0) ≡ getD xs i 0) → afterByte B t c slots i (getD xs i 0) ≡ getD xs i 0
+  untold c true e = e
+  untold c false e = refl
+
+  byte-at : (c : Op) → getD (doneAt B n c xs .image) i 0 ≡ afterByte B (doneAt B n c xs .taken) c slots i (getD xs i 0)
+  byte-at (put s p v) =
+      put-beside B n xs l s (putBytes p) (length-entry (named p) (held-named p v .fields .long)) i o ∙ sym (untold (put s p v) (taken (putAt B n xs s (putBytes p) .answer)) refl)
+  byte-at (clear s) = clear-beside B n xs l s i o ∙ sym (untold (clear s) (taken (clearAt B n xs s .answer)) refl)
+  byte-at (payload s a ys) = payload-byte s a ys (taken (payloadAt B n xs s a ys .answer)) refl
+
+  byte-step : (c : Op) → getD (call B c xs .image) i 0 ≡ afterByte B (call B c xs .taken) c slots i (getD xs i 0)
+  byte-step c = subst (λ (m : ℕ). getD (doneAt B m c xs .image) i 0 ≡ afterByte B (doneAt B m c xs .taken) c slots i (getD xs i 0)) (sym l) (byte-at c)
+
 pub bytes-told : {B n : ℕ} {g : List ℕ} (os : List Op) (xs : List ℕ) (slots : ℕ → Found) → Holds B n g slots xs
-    → (i : ℕ) → Beside B n i → getD (run B os xs) i 0 ≡ toldByte B os xs i (getD xs i 0)
+    → (i : ℕ) → Beside B n i → getD (run B os xs) i 0 ≡ toldByte B os xs slots i (getD xs i 0)
 unfolding run toldByte
 bytes-told [] xs slots h i o = refl
 bytes-told {B} (c ∷ os) xs slots h i o =
     bytes-told os (call B c xs .image) _ (step h c) i o
-    ∙ ap (λ (x : ℕ). toldByte B os (call B c xs .image) i x) (byte-step h i o c)
+    ∙ ap (λ (x : ℕ). toldByte B os (call B c xs .image) (λ (k : ℕ). after (call B c xs .taken) c k (slots k)) i x) (byte-step h i o c)
 
 -- after an accepted lay and any calls, every byte beside the tables is what the last accepted payload write over it gave, else what lay left
 pub demand-3-bytes : (B : ℕ) (xs : List ℕ) (g : Guid) (os : List Op) → layOutcome B xs g .answer ≡ accepted tt → (i : ℕ) → Beside B (length xs) i
-    → getD (run B os (layOutcome B xs g .image)) i 0 ≡ toldByte B os (layOutcome B xs g .image) i (getD (layOutcome B xs g .image) i 0)
+    → getD (run B os (layOutcome B xs g .image)) i 0 ≡ toldByte B os (layOutcome B xs g .image) (λ (s : ℕ). emptySlot) i (getD (layOutcome B xs g .image) i 0)
 demand-3-bytes B xs g os h i o = bytes-told os (layOutcome B xs g .image) (λ (s : ℕ). emptySlot) (lay-holds B xs g h) i o

@@ -29,6 +29,7 @@ use Rattle.tables.proofs.Changes.{slot-ok}
 
 pub record Pays (B n : ℕ) (t : Tables) (s p m : ℕ) : Type 0 where
   pub card : check B n t ≡ 0
+  pub one : 1 ≤ s
   pub slot : s - 1 < 128
   pub low : B + B + 16384 ≤ payloadPlace B t s p
   pub start : firstOf (entry (t .front .array) (s - 1)) * B ≤ payloadPlace B t s p
@@ -45,9 +46,9 @@ pay-ok B n t s p m whole h =
     let h2 = else-second (when (badSlot s) 18) _ h1 in
     let c23 : not (used (entry (t .front .array) (s - 1))) ≡ false = none-when _ 23 tt (else-first (when (not (used e)) 23) _ h2) in
     let c24 : ltb ((lastOf (entry (t .front .array) (s - 1)) + 1 - firstOf (entry (t .front .array) (s - 1))) * B) (p + m) ≡ false = none-when _ 24 tt (else-second (when (not (used e)) 23) _ h2) in
-    fits (slot-ok s c18 .1) c (check-good B n t whole c) (ok-used B n _ (check-good B n t whole c .entries .each (s - 1) (slot-ok s c18 .1)) (not-false _ c23)) (ltb-false _ _ c24)
+    fits (slot-ok s c18) c (check-good B n t whole c) (ok-used B n _ (check-good B n t whole c .entries .each (s - 1) (slot-ok s c18 .1)) (not-false _ c23)) (ltb-false _ _ c24)
   where
-    fits : s - 1 < 128 → check B n t ≡ 0 → Good B n (guidOf (t .front)) t → Inside B n (entry (t .front .array) (s - 1))
+    fits : (1 ≤ s) × (s - 1 < 128) → check B n t ≡ 0 → Good B n (guidOf (t .front)) t → Inside B n (entry (t .front .array) (s - 1))
         → p + m ≤ (lastOf (entry (t .front .array) (s - 1)) + 1 - firstOf (entry (t .front .array) (s - 1))) * B → Pays B n t s p m
     fits sl c k i q =
         let r : Room B n = room-ok B n (k .room) in
@@ -59,7 +60,7 @@ pay-ok B n t s p m whole h =
         let u : firstUsable B * B ≤ f * B = mul-le-mul-right B (i .low) in
         let zl : z ≤ lastUsable B n + 1 = omega (arith, i .high) in
         let v : z * B ≤ (lastUsable B n + 1) * B = mul-le-mul-right B zl in
-        record { card = c; slot = sl; low = omega arith; start = omega arith; end = omega arith; high = omega arith }
+        record { card = c; one = sl .0; slot = sl .1; low = omega arith; start = omega arith; end = omega arith; high = omega arith }
 
 -- and where nothing speaks against it, it is accepted: so is one of no bytes at the partition's end
 pub ok-pay : (B n : ℕ) (t : Tables) (s p m : ℕ) → check B n t ≡ 0 → 1 ≤ s → s ≤ 128 → used (entry (t .front .array) (s - 1)) ≡ true
@@ -71,7 +72,7 @@ ok-pay B n t s p m c a b u h =
     (else-none (when-none _ 23 (ap not u)) (when-none _ 24 (le-ltb _ _ h))))
 
 module _ (B n : ℕ) (xs : List ℕ) (l : length xs ≡ n) (s p : ℕ) (ys : List ℕ) (h : payloadNumber B n (tablesAt B n xs) s p (length ys) ≡ 0) where
-  pays : Pays B n (tablesAt B n xs) s p (length ys)
+  pub pays : Pays B n (tablesAt B n xs) s p (length ys)
   pays = pay-ok B n (tablesAt B n xs) s p (length ys) (λ r. whole-tables B n r xs l) h
 
   pay-room : Room B n

@@ -176,7 +176,7 @@ module _ (B : ℕ) (xs : List ℕ) (g : Guid) (slots : ℕ → Found) (h : Holds
 
   -- ---- the two sides
 
-  pub reads-front : Reads B g slots xs (primaryRead xs B)
+  pub reads-front : Reads B g slots xs (B + B) (primaryRead xs B)
   unfolding primaryRead tablesAt copyOf headerOn withSums
   reads-front =
       let r = room-of in
@@ -185,13 +185,14 @@ module _ (B : ℕ) (xs : List ℕ) (g : Guid) (slots : ℕ → Found) (h : Holds
         header = headerOn Front;
         read = rw (r .good) (header-read Front B (ap (λ (t : Tables). t .front .header) (h .state .tables)));
         guid = refl;
+        first = refl;
+        last = refl;
         count = refl;
-        array = B + B;
         found = array-found Front (B + B) two (omega arith) (ap (λ (t : Tables). t .front .array) (h .state .tables));
         each = slot-read Front (B + B) two (omega arith) (ap (λ (t : Tables). t .front .array) (h .state .tables));
       }
 
-  pub reads-back : Reads B g slots xs (backupRead xs B)
+  pub reads-back : Reads B g slots xs (backArray B (length xs)) (backupRead xs B)
   unfolding backupRead tablesAt copyOf headerOn withSums
   reads-back =
       let r = room-of in
@@ -201,8 +202,9 @@ module _ (B : ℕ) (xs : List ℕ) (g : Guid) (slots : ℕ → Found) (h : Holds
             rw (r .good, le-ltb (length xs) (3 * B) (r .enough), r .block)
             (header-read Back (backHeader B (length xs)) (ap (λ (t : Tables). t .back .header) (h .state .tables)));
         guid = refl;
+        first = refl;
+        last = refl;
         count = refl;
-        array = backArray B (length xs);
         found = array-found Back (backArray B (length xs)) (r .last) (omega arith) (ap (λ (t : Tables). t .back .array) (h .state .tables));
         each = slot-read Back (backArray B (length xs)) (r .last) (omega arith) (ap (λ (t : Tables). t .back .array) (h .state .tables));
       }

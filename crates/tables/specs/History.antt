@@ -19,9 +19,9 @@ use Rattle.partition.specs.Format.{named, zeroPartition}
 use Rattle.partition.specs.Array.{Found, arrayFound, partitionRead}
 use Rattle.partition.proofs.Laws.{FitEntry}
 use Rattle.tables.specs.Places.{firstUsable, lastUsable, backArray}
-use Rattle.tables.specs.Lens.{tablesAt, Beside}
+use Rattle.tables.specs.Lens.{Beside}
 use Rattle.tables.specs.Listing.{Listed, entriesAnswer}
-use Rattle.tables.specs.Calls.{payloadPlace, putBytes, checkAnswer, putAt, clearAt, payloadAt}
+use Rattle.tables.specs.Calls.{putBytes, checkAnswer, putAt, clearAt, payloadAt}
 
 -- ---- calls
 
@@ -94,32 +94,37 @@ filledFrom slots k (suc n) =
     (record { slot = k + 1; partition = slots (k + 1) .partition } ∷ filledFrom slots (k + 1) n)
     (filledFrom slots (k + 1) n)
 
--- ---- what is told of a byte beside the tables: the last accepted payload write over it
+-- ---- what is told of a byte beside the tables: the last accepted payload write over it, at its place in the partition that its slot then held
 
 unfoldable pub covers : ℕ → ℕ → ℕ → Bool
 covers at m i = leb at i && ltb i (at + m)
 
--- what a call makes of byte i, which was x
-abbrev pub afterByte : ℕ → ℕ → Bool → Op → List ℕ → ℕ → ℕ → ℕ
-afterByte B n true (put s p _) xs i x = x
-afterByte B n true (clear s) xs i x = x
-afterByte B n true (payload s p ys) xs i x =
-    pick (covers (payloadPlace B (tablesAt B n xs) s p) (length ys) i) (getD ys (i - payloadPlace B (tablesAt B n xs) s p) 0) x
-afterByte B n false o xs i x = x
+-- byte p of the partition that a slot holds
+abbrev pub placeIn : ℕ → Found → ℕ → ℕ
+placeIn B f p = f .partition .«first_lba» .0 * B + p
 
-unfoldable pub toldByte : ℕ → List Op → List ℕ → ℕ → ℕ → ℕ
-toldByte B [] xs i x = x
-toldByte B (o ∷ os) xs i x = toldByte B os (call B o xs .image) i (afterByte B (length xs) (call B o xs .taken) o xs i x)
+-- what a call makes of byte i, which was x, where the slots hold what was told of them
+abbrev pub afterByte : ℕ → Bool → Op → (ℕ → Found) → ℕ → ℕ → ℕ
+afterByte B true (put s p _) slots i x = x
+afterByte B true (clear s) slots i x = x
+afterByte B true (payload s p ys) slots i x = pick (covers (placeIn B (slots s) p) (length ys) i) (getD ys (i - placeIn B (slots s) p) 0) x
+afterByte B false o slots i x = x
+
+unfoldable pub toldByte : ℕ → List Op → List ℕ → (ℕ → Found) → ℕ → ℕ → ℕ
+toldByte B [] xs slots i x = x
+toldByte B (o ∷ os) xs slots i x =
+    toldByte B os (call B o xs .image) (λ (k : ℕ). after (call B o xs .taken) o k (slots k)) i (afterByte B (call B o xs .taken) o slots i x)
 
 -- ---- a card, by the readers of the format
 
--- a header that was read has the GUID, its array is found with its check sum right, and each of 128 slots reads as told
-pub record Reads (B : ℕ) (g : Guid) (slots : ℕ → Found) (xs : List ℕ) (answer : Answer Header) : Type 0 where
+-- a header that was read has the GUID and the usable blocks, its array is found at its own place with its check sum right, and each of 128 slots reads as told
+pub record Reads (B : ℕ) (g : Guid) (slots : ℕ → Found) (xs : List ℕ) (array : ℕ) (answer : Answer Header) : Type 0 where
   pub header : Header
   pub read : answer ≡ accepted header
   pub guid : header .«disk_guid» ≡ g
+  pub first : header .«first_usable» .0 ≡ firstUsable B
+  pub last : header .«last_usable» .0 ≡ lastUsable B (length xs)
   pub count : header .«num_parts» ≡ 128
-  pub array : ℕ
   pub found : arrayFound xs header B ≡ accepted (record { 0 = array })
   pub each : (s : ℕ) → 1 ≤ s → s ≤ 128 → partitionRead xs header B s ≡ accepted (slots s)
 
@@ -137,8 +142,8 @@ pub record Card (B : ℕ) (g : Guid) (slots : ℕ → Found) (xs : List ℕ) : T
   -- the check accepts, the listing gives the filled slots, and both tables read as told
   pub check : checkAnswer B xs ≡ accepted tt
   pub listing : entriesAnswer B xs ≡ accepted (filledFrom slots 0 128)
-  pub primary : Reads B g slots xs (primaryRead xs B)
-  pub backup : Reads B g slots xs (backupRead xs B)
+  pub primary : Reads B g slots xs (B + B) (primaryRead xs B)
+  pub backup : Reads B g slots xs (backArray B (length xs)) (backupRead xs B)
   -- the usable blocks lie after block 0 and the front table, and before the back table
   pub ground : B + B + 16384 ≤ firstUsable B * B
   pub roof : (lastUsable B (length xs) + 1) * B ≤ backArray B (length xs)
@@ -155,4 +160,4 @@ pub record Told (B : ℕ) (g : Guid) (os : List Op) (laid : List ℕ) : Type 0 w
   -- it is a card whose slots hold what the last accepted put or clear of each gave; a slot with none is empty
   pub card : Card B g (λ (s : ℕ). told B os laid s emptySlot) (run B os laid)
   -- a byte in neither table is what the last accepted payload write over it gave; with none it is as it was
-  pub bytes : (i : ℕ) → Beside B (length laid) i → getD (run B os laid) i 0 ≡ toldByte B os laid i (getD laid i 0)
+  pub bytes : (i : ℕ) → Beside B (length laid) i → getD (run B os laid) i 0 ≡ toldByte B os laid (λ (s : ℕ). emptySlot) i (getD laid i 0)

@@ -54,6 +54,3 @@ entriesAnswer B xs = judged (check B (length xs) (tables B xs)) 0 (map (listed (
 -- the count, for a lent row of m records: 15 if more entries are present
 unfoldable pub listingNumber : ℕ → ℕ → Tables → ℕ → ℕ
 listingNumber B n t m = orElse (check B n t) (when (ltb m (length (presentSlots t))) 15)
-
-abbrev pub listingAnswer : ℕ → List ℕ → ℕ → Answer ℕ
-listingAnswer B xs m = judged (listingNumber B (length xs) (tables B xs) m) 0 (length (presentSlots (tables B xs)))
