@@ -3,7 +3,7 @@ PREFIX ?= /usr/local
 DESTDIR ?=
 VERSION = 0.1.0
 
-.PHONY: demo sums test outside bench lib install boundary example python interop clean
+.PHONY: demo sums test outside bench lib install boundary example lister-test python interop clean
 
 # Lays a sample card in a file, with three slots, and lists it.
 demo:
@@ -63,6 +63,14 @@ boundary: lib
 example:
 	python3 tests/example/make_card.py lister | cmp - crates/lister/stdin
 	python3 tests/example/make_card.py sample | cmp - crates/sample/stdout
+	grep '^[0-9]*: digest of the image' crates/cases/stdout >target/digests
+	python3 tests/example/make_card.py sums | cmp - target/digests
+	@echo "two cards and $$(wc -l <target/digests) sums of cards are the independent maker's"
+
+# The lister on seventeen inputs: cards of the independent maker, and what it refuses.
+lister-test:
+	rt check lister
+	python3 tests/example/lister.py
 
 # The example in the Python module's own text.
 python: lib

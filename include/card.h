@@ -294,8 +294,8 @@ CARD_SIZE(card_row, 136);
 CARD_AT(card_row, slot, 0);
 CARD_AT(card_row, partition, 8);
 
-/* The listing into lent bytes, after one check: a card_row for each used slot, ascending, and how many there are. The record is the entry
-   as it stands in the array. The bytes after the last row stay. out is a card_row array, as bytes, or any other bytes.
+/* The listing into lent bytes, after one check: a card_row for each used slot, ascending, and how many there are. The record is the one
+   that card_read_slot gives. The bytes after the last row stay. out is a card_row array, as bytes, or any other bytes.
    The check's numbers, then 15 where out_len is less than 136 times the count. */
 gpt_count card_list(const uint8_t *img, size_t img_len, uint64_t b, uint8_t *out, size_t out_len);
 

@@ -32,6 +32,7 @@ run() {
 }
 
 run example "the stored cards are the independent maker's" python3 cmp
+run lister-test "the lister" python3
 run lib "the library for C" cc
 run boundary "every call across the boundary to C" cc
 run python "the Python module's example" python3 cc

@@ -6,65 +6,51 @@ use Prim.Native.Nat.{ℕ, suc, _+_, _*_, _-_, _/_, _≤_, _<_}
 use native.Mathlib.Omega.{arith}
 use borrow.Author.Tests.{lt-ltb, le-ltb}
 use lib.Dec.{ltb}
-use lib.ListN.{length, getD, take, drop, length-append, length-drop, drop-of-length-le}
-use lib.Seq.{sets, drop-cons, take-all, drop-at}
+use lib.ListN.{length, getD, drop, length-append, length-drop, drop-of-length-le}
+use lib.Seq.{sets, drop-cons}
 use Rattle.units.specs.Answer.{gives, Ends}
-use Rattle.units.specs.Bytes.{part, num, bytes}
-use Rattle.units.proofs.Lists.{length-part, sets-then, and-then}
+use Rattle.units.specs.Bytes.{num, bytes}
+use Rattle.units.proofs.Lists.{sets-then, and-then}
 use Rattle.units.proofs.Laws.{length-bytes, num-here}
-use Rattle.partition.specs.Format.{entryAt}
+use Rattle.partition.specs.declared.Partition.{Partition}
+use Rattle.partition.specs.Format.{entryAt, entryBytes}
 use Rattle.partition.specs.Array.{entryPlace, presentFrom, firstSlot}
 use Rattle.partition.proofs.Laws as partition
 use Rattle.tables.specs.Checks.{when}
-use Rattle.tables.specs.Lens.{Tables, tablesAt, tables}
-use Rattle.tables.specs.Entries.{entry}
+use Rattle.tables.specs.Lens.{Tables, tables}
 use Rattle.tables.specs.Check.{roomCheck, check}
 use Rattle.tables.specs.Calls.{badSlot}
 use Rattle.tables.specs.Listing.{presentSlots, listed, listingNumber}
 use Rattle.tables.proofs.Orders.{else-first, else-skip, else-take, when-none, when-true}
 use Rattle.tables.proofs.State.{settle-accepted, settle-refused}
 use Rattle.tables.proofs.Changes.{slot-ok}
-use Rattle.tables.proofs.Listings.{entry-place, after-last}
-use Rattle.checking.proofs.CheckWays.{entry-part}
-use Rattle.listing.proofs.Ways.{slot-good, first-left, entry-inside}
+use Rattle.tables.proofs.Listings.{after-last}
+use Rattle.listing.proofs.Ways.{slot-good, first-left}
 use Rattle.card_c.specs.Exports.{told, crossed, countToC}
 use Rattle.card_c.specs.Rows.{row, rowsOf, rowsListed}
 use Rattle.card_c.proofs.Laws.{told-gives}
 
 -- ---- one row
 
-module _ (B : ℕ) (xs : List ℕ) (s : ℕ) (k : badSlot s ≡ false) where
-  -- its entry, as it stands in the image
-  entry-here : entry (tables B xs .front .array) (s - 1) ≡ part xs (B + B + 128 * (s - 1)) 128
-  unfolding tablesAt
-  entry-here = entry-part xs (B + B) (s - 1) (slot-ok s k .1)
+-- a record that was read has 36 units in its name, so its bytes are 128
+record-length : (xs : List ℕ) (at : ℕ) → length (entryBytes (entryAt xs at)) ≡ 128
+record-length xs at = partition.length-entry (entryAt xs at) (partition.length-cleared _ ∙ partition.length-units 36 xs (at + 56))
 
-  pub row-stored : (out : List ℕ) (at from m : ℕ) {o₁ o₂ : List ℕ} → from ≡ B + B + 128 * (s - 1) → m ≡ 128 → o₁ ≡ sets out at (bytes 8 s) → o₂ ≡ sets o₁ (at + 8) (part xs from m)
-      → o₂ ≡ sets out at (row (tables B xs) s)
+module _ (t : Tables) (s : ℕ) where
+  pub row-stored : (out : List ℕ) (at : ℕ) {p : Partition} {o₁ o₂ : List ℕ} → p ≡ entryAt (t .front .array) (entryPlace 0 (s - 1)) → o₁ ≡ sets out at (bytes 8 s) → o₂ ≡ sets o₁ (at + 8) (entryBytes p)
+      → o₂ ≡ sets out at (row t s)
   unfolding row
-  row-stored out at from m p q e f =
-      and-then out at (bytes 8 s) (at + 8) (entry (tables B xs .front .array) (s - 1)) (rw length-bytes) e (f ∙ rw (p, q, entry-here))
+  row-stored out at q e f = and-then out at (bytes 8 s) (at + 8) (entryBytes (listed t s .partition)) (rw length-bytes) e (f ∙ rw q)
 
-  pub row-length : roomCheck B (length xs) ≡ 0 → length (row (tables B xs) s) ≡ 136
+  pub row-length : length (row t s) ≡ 136
   unfolding row
-  row-length h =
-      let e = length-part xs (B + B + 128 * (s - 1)) 128 (entry-inside B xs h s k (omega arith)) in
-      omega (arith, length-append (bytes 8 s) (entry (tables B xs .front .array) (s - 1)), length-bytes 8 s, ap length entry-here)
+  row-length =
+      omega (arith, length-append (bytes 8 s) (entryBytes (listed t s .partition)), length-bytes 8 s, record-length (t .front .array) (entryPlace 0 (s - 1)))
 
-  -- a row reads back: the slot at 0, and at 8 the record that the listing has
-  pub row-slot : num (row (tables B xs) s) 0 8 ≡ s
+  -- the slot reads back
+  pub row-slot : badSlot s ≡ false → num (row t s) 0 8 ≡ s
   unfolding row
-  row-slot = let q = slot-ok s k in num-here 8 s (entry (tables B xs .front .array) (s - 1)) (omega arith)
-
-  pub row-record : roomCheck B (length xs) ≡ 0 → entryAt (row (tables B xs) s) 8 ≡ listed (tables B xs) s .partition
-  unfolding row
-  row-record h =
-      let e : List ℕ = entry (tables B xs .front .array) (s - 1) in
-      let n = length-part xs (B + B + 128 * (s - 1)) 128 (entry-inside B xs h s k (omega arith)) in
-      sym (partition.entry-part (bytes 8 s ++ e) 8)
-      ∙ ap (λ (l : List ℕ). entryAt l 0)
-      (ap (take 128) (drop-at (bytes 8 s) e 8 (length-bytes 8 s)) ∙ take-all 128 e (omega (arith, ap length entry-here)) ∙ entry-place (tables B xs .front .array) (s - 1))
-      ∙ partition.entry-part (tables B xs .front .array) (entryPlace 0 (s - 1))
+  row-slot k = let q = slot-ok s k in num-here 8 s (entryBytes (listed t s .partition)) (omega arith)
 
 -- ---- the loop: i rows are stored, and those of the slots after the last of them are left
 
@@ -83,13 +69,13 @@ module _ (B : ℕ) (xs : List ℕ) (after i : ℕ) {next : ℕ} (e : next ≡ fi
   next-good = slot-good B xs i next-is one-left
 
   -- its row, and then those that are left
-  pub rows-more : roomCheck B (length xs) ≡ 0 → (out : List ℕ)
+  pub rows-more : (out : List ℕ)
       → sets (sets out (136 * i) (row (tables B xs) next)) (136 * (i + 1)) (rowsOf (tables B xs) (drop (i + 1) (presentSlots (tables B xs))))
       ≡ sets out (136 * i) (rowsOf (tables B xs) (drop i (presentSlots (tables B xs))))
   unfolding rowsOf
-  rows-more r out =
+  rows-more out =
       let o : i + 1 ≡ suc i = omega arith in
-      sets-then out (136 * i) (row (tables B xs) next) (136 * (i + 1)) (rowsOf (tables B xs) (drop (i + 1) (presentSlots (tables B xs)))) (omega (arith, row-length B xs next next-good r))
+      sets-then out (136 * i) (row (tables B xs) next) (136 * (i + 1)) (rowsOf (tables B xs) (drop (i + 1) (presentSlots (tables B xs)))) (omega (arith, row-length (tables B xs) next))
       ∙ rw (drop-cons (presentSlots (tables B xs)) i 0 h, o, next-is)
 
 -- past the last one there is nothing to store

@@ -1,5 +1,6 @@
 // The library's calls for C and for whatever links as C does: include/card.h has their prototypes. Numbers, slices and #[repr(C)] structs cross, and a slice
-// crosses as a pointer and a length. Each export is one proved call and the way its answer is told to C.
+// crosses as a pointer and a length. Each export is one proved call and the way its
+// answer is told to C; card_list and gpt_entry_from_bytes are made of leaves.
 mod answers; // answers.rt: the structs that come back, and how each answer becomes one
 mod building; // building.rt: the header builder
 mod cards; // cards.rt: the card calls

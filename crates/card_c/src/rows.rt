@@ -1,4 +1,4 @@
-// The listing of a card into lent bytes: 136 bytes a row, the slot in 8 and then its entry's 128. Each `requires` is what card_list has tested.
+// The listing of a card into lent bytes: 136 bytes a row, the slot in 8 and then its record's 128. Each `requires` is what card_list has tested.
 use units::BytePlace;
 use units::Slot;
 ghost use mathlib.Core.Path.{_≡_};
@@ -19,9 +19,9 @@ fn put_row(img: &[u8], b: u64, slot: Slot, out: &mut [u8], at: BytePlace)
     ensures { λ _. ⌜ now (out .exit) ≡ sets (now (out .entry)) (at .0) (row (tables b (now (img .entry))) (slot .0)) ⌝ }
 {
     let a = at.0;
-    let from = tables::inner::slot_place(img.len(), b, false, slot).0;
+    let record = listing::inner::slot_entry(img, b, slot);
     units::inner::put_num(out, a, 8, slot.0 as u64);
-    units::inner::put_bytes(out, a + 8, &img[from..from + 128]);
+    partition::inner::put_entry(out, a + 8, record);
 }
 
 // The rows of all used slots, of which there are `count`.

@@ -59,7 +59,7 @@ loop-again c =
       omega arith,
       omega arith,
       passed-one (tables (a .b) (a .img .now) .front .array) (l .after) e (presentSlots (tables (a .b) (a .img .now))) (l .i) (one-left (a .b) (a .img .now) (l .after) (l .i) e (l .inv .2) h) (l .inv .2),
-      rw (c .before .before .put-row .ensures) (rows-more (a .b) (a .img .now) (l .after) (l .i) e (l .inv .2) h (c .before .before .before .before .before .before .before .before .before .pre .0) (l .out) ∙ l .inv .3),
+      rw (c .before .before .put-row .ensures) (rows-more (a .b) (a .img .now) (l .after) (l .i) e (l .inv .2) h (l .out) ∙ l .inv .3),
     )
 
 same-length : tie.Need-same-length Inv-loop μ-loop
