@@ -24,7 +24,7 @@ ghost use Rattle.partition.specs.Device.{runPlace, devicePlace};
 ghost use Rattle.partition.specs.Array.{present, presentFrom, firstSlot, arrayFound, partitionFound};
 
 // The 36 units of a name, as they stand.
-fn units_at(s: &[u8], at: usize) -> [u16; 36]
+pub fn units_at(s: &[u8], at: usize) -> [u16; 36]
     requires { ⌜ at + 72 ≤ length (now s) ⌝ }
     ensures { λ r. ⌜ r ≡ unitsAt 36 (now (s .entry)) at ⌝ }
 {
