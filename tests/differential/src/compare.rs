@@ -13,7 +13,8 @@ pub enum Verdict {
     Unlisted(String),
 }
 
-/// What both sides did. `g`: the original kept new sums after a refusal.
+/// What both sides did.
+#[derive(Clone)]
 pub struct Ran {
     pub original: Did,
     pub original_img: Vec<u8>,
@@ -103,6 +104,7 @@ fn as_listed(case: &Case, ran: &Ran, l: &Listed) -> bool {
         }
         (Original::Replaces, Did::Answered { answer, .. }) => {
             answer.number == 0
+                && answer.values != ran.port.values
                 && answer.values == with_replaced(&case.call, &ran.port.values)
                 && ran.original_img == case.img
                 && ran.port_img == case.img
