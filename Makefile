@@ -1,5 +1,5 @@
 # The targets of the repository. `make test` is the gate: its last line is rt ci's `N passed, 0 failed`.
-.PHONY: demo test bench boundary clean
+.PHONY: demo test bench boundary differential differential-slips clean
 
 # Prints the check sums of published vectors and of what is piped in; a terminal counts as no input.
 demo:
@@ -8,6 +8,7 @@ demo:
 
 test:
 	rt fmt --check
+	@IN_TEST=1 $(MAKE) --no-print-directory differential
 	rt ci
 
 # Measures the check sum beside a plain byte table and zlib, in one run.
@@ -22,6 +23,14 @@ boundary:
 	rt staticlib card_c
 	cc -std=c11 -Wall -Wextra -O2 -Iinclude -o target/boundary tests/c/boundary.c target/staticlib/libcard_c.a
 	target/boundary
+
+# The port beside the Rust original (tests/differential). Variables: GPT_SRC (where the original is), SEED, CASES.
+differential:
+	@tests/differential/run.sh run
+
+# How soon that run catches slips put into the port's answers.
+differential-slips:
+	@tests/differential/run.sh slips
 
 clean:
 	rm -rf target

@@ -9,6 +9,7 @@ cd "$here/../.."
 src=${GPT_SRC:-../shared/docs/src}
 to=target/differential
 packages="librust-uuid-dev librust-bitflags-dev librust-crc32fast-dev librust-getrandom-dev librust-libc-dev librust-cfg-if-dev"
+quick="-o Acquire::Retries=0 -o Acquire::http::Timeout=20"
 files="lib.rs disk.rs macros.rs mbr.rs partition.rs partition_types.rs header/mod.rs header/builder.rs"
 
 missing() { echo "differential: $1" >&2; exit 3; }
@@ -26,7 +27,7 @@ if [ ! -f "$to/vendor/.complete" ]; then
     command -v dpkg >/dev/null 2>&1 || missing "dpkg is missing, so Debian's Rust packages cannot be unpacked"
     rm -rf "$to/vendor" "$to/deb"
     mkdir -p "$to/vendor" "$to/deb"
-    (cd "$to/deb" && apt-get download $packages || { apt-get update && apt-get download $packages; }) >"$to/deb/log" 2>&1 \
+    (cd "$to/deb" && apt-get download $packages || { apt-get update $quick && apt-get download $quick $packages; }) >"$to/deb/log" 2>&1 \
         || missing "Debian's Rust packages cannot be had ($packages): see $to/deb/log"
     for d in "$to"/deb/*.deb; do
         dpkg -x "$d" "$to/deb/root"

@@ -35,6 +35,7 @@ pub fn fixed(part: usize, of: usize, to: &mut dyn FnMut(Case)) {
         block_zero(&mut s, b);
         damaged(&mut s, b);
         array_bytes(&mut s, b);
+        header_edges(&mut s, b);
         builders(&mut s, b);
         device_edges(&mut s, b);
     }
@@ -188,6 +189,44 @@ fn array_bytes(s: &mut Share, b: u64) {
     }
 }
 
+/// Headers whose array or own block stands where a product or an end passes 64 bits, and shapes of the array that meet it; block sizes that are none.
+fn header_edges(s: &mut Share, b: u64) {
+    let img = [0x33; 1100];
+    let most = u64::MAX / b;
+    let blocks = [0, 1, 2, most - 1, most, most + 1, u64::MAX];
+    for start in blocks {
+        for (count, size) in [(0, 128), (0, 127), (1, 128), (1, 129), (4, 128), (9, 128), (1, 0), (u32::MAX, u32::MAX), (1 << 31, 1 << 31)] {
+            for (current, backup) in blocks.into_iter().flat_map(|c| [(c, 1), (c, c), (c, u64::MAX)]) {
+                let h = with_sum(&img, head(current, backup, 0, 0, [3; 16], start, count, size), b);
+                s.case(&img, || Call::ArraySum { b, head: Box::new(h) });
+                s.case(&img, || Call::WritePrimary { b, head: Box::new(h) });
+                s.case(&img, || Call::WriteBackup { b, head: Box::new(h) });
+                s.case(&img, || Call::ReadArray { b, head: Box::new(h) });
+            }
+        }
+    }
+    for none in [0, 1, 511, 513, 1024, 2048, 4095, 4097, 8192, b << 32, b + (1 << 32), u64::MAX] {
+        no_block_size(s, none, &img);
+    }
+}
+
+fn no_block_size(s: &mut Share, b: u64, img: &[u8]) {
+    let h = head(1, 2, 0, 0, [3; 16], 1, 1, 127);
+    let e = [1; 128];
+    s.case(img, || Call::ReadPrimary { b });
+    s.case(img, || Call::ReadBackup { b });
+    s.case(img, || Call::ArraySum { b, head: Box::new(h) });
+    s.case(img, || Call::WritePrimary { b, head: Box::new(h) });
+    s.case(img, || Call::WriteBackup { b, head: Box::new(h) });
+    s.case(img, || Call::ReadArray { b, head: Box::new(h) });
+    s.case(img, || Call::BuildFrom { b, head: Box::new(h) });
+    s.case(img, || Call::Build(Build { b, primary: true, guid: [0; 16], backup: 0, first: 0, last: 0, count: 0, size: 0, which: 0 }));
+    s.case(img, || Call::WriteEntry { index: 0, start: 0, b, size: 0, entry: Box::new(e) });
+    s.case(img, || Call::WriteZero { index: 0, count: 0, start: 0, b, size: 0 });
+    s.case(img, || Call::MbrFromBytes { b });
+    s.case(img, || Call::MbrFromImage { b });
+}
+
 fn builders(s: &mut Share, b: u64) {
     let guid = [0x11; 16];
     for primary in [true, false] {
@@ -225,6 +264,12 @@ fn device_edges(s: &mut Share, b: u64) {
     let img = [0xEE; 1024];
     let most = u64::MAX / b;
     let entry: Entry = std::array::from_fn(|i| if i < 56 { i as u8 } else { (i % 2 == 0) as u8 * 65 });
+    for start in [most, most + 1, u64::MAX] {
+        for size in [0, 4097] {
+            s.case(&img, || Call::WriteEntry { index: 1, start, b, size, entry: Box::new(entry) });
+            s.case(&img, || Call::WriteZero { index: 1, count: 1, start, b, size });
+        }
+    }
     let starts = [0, 1, 2, most - 1, most, most + 1, (1 << 63) / b, (1 << 63) / b - 1, u64::MAX];
     for start in starts {
         for size in [1u32, 127, 128, 129, 256, 4096] {
@@ -487,7 +532,7 @@ fn build_case(r: &mut Rng, b: u64) -> Call {
 }
 
 fn small_case(r: &mut Rng, b: u64, img: Vec<u8>) -> Case {
-    let call = match r.below(13) {
+    let call = match r.below(14) {
         0 => {
             let mut img = img;
             if !r.one_in(4) {
@@ -505,7 +550,12 @@ fn small_case(r: &mut Rng, b: u64, img: Vec<u8>) -> Case {
         8 => Call::RecordGet { mbr: Box::new(r.bytes()), place: r.below(5) as usize },
         9 => Call::RecordSet { mbr: Box::new(r.bytes()), place: r.below(5) as usize, record: r.bytes() },
         10 => Call::MbrNew { size: (r.next() >> r.below(64)) as u32 },
-        11 => Call::EntryToBytes { n: r.below(260) as usize, entry: Box::new(entry(r)) },
+        11 => {
+            let n = if r.one_in(3) { r.below(40) } else { 16 };
+            let some = r.bytes::<40>();
+            return Case { img: some[..n as usize].to_vec(), call: Call::RecordFromBytes };
+        }
+        12 => Call::EntryToBytes { n: r.below(260) as usize, entry: Box::new(entry(r)) },
         _ => Call::Sum,
     };
     Case { img, call }

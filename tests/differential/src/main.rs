@@ -31,7 +31,13 @@ fn main() {
     for (class, text) in CLASSES {
         println!("{class:2} {:8}  {text}", t.classes.get(class).unwrap_or(&0));
     }
-    println!("{} cases, {} not asked of the original, {:.1} s, seed {seed}", t.cases, t.not_asked, began.elapsed().as_secs_f64());
+    println!(
+        "{} cases ({} of the fixed list), {} more not asked of the original, {:.1} s, seed {seed}",
+        t.cases,
+        t.fixed,
+        t.not_asked,
+        began.elapsed().as_secs_f64()
+    );
     match t.worst {
         None => println!("0 unlisted differences"),
         Some((_, case, text)) => {

@@ -10,6 +10,8 @@ use std::thread;
 #[derive(Default)]
 pub struct Tally {
     pub cases: u64,
+    /// How many of them are of the fixed list.
+    pub fixed: u64,
     pub not_asked: u64,
     pub per_call: [u64; CALLS.len()],
     /// Cases by call and by the port's number.
@@ -55,6 +57,7 @@ impl Tally {
 
     fn join(&mut self, other: Tally) {
         self.cases += other.cases;
+        self.fixed += other.fixed;
         self.not_asked += other.not_asked;
         self.unlisted += other.unlisted;
         for (a, b) in self.per_call.iter_mut().zip(other.per_call) {
@@ -94,6 +97,7 @@ pub fn all(seed: u64, cases: u64) -> Tally {
                 s.spawn(move || {
                     let mut t = Tally::default();
                     fixed(part, parts, &mut |case| t.take(case));
+                    t.fixed = t.cases;
                     let share = cases / parts as u64 + 1;
                     let mut i = part as u64;
                     while t.cases < share {

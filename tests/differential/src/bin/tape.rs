@@ -1,4 +1,4 @@
-//! Writes tape.bin: answers of the Rust original, in the format that README.md describes. Inputs of a listed class are left out. Each answer is
+//! Writes tape.bin, or with --check compares it with what would be written: answers of the Rust original, in the format that README.md describes. Inputs of a listed class are left out. Each answer is
 //! also compared with the port's; a difference ends the program.
 
 use differential::case::{Answer, Build, Call, Case, Entry, Head};
@@ -548,12 +548,7 @@ fn block_zero(t: &mut Tape, r: &mut Rng) {
 }
 
 fn main() {
-    std::panic::set_hook(Box::new(|what| {
-        let text = what.to_string();
-        if text.contains("parts from") {
-            eprintln!("{text}");
-        }
-    }));
+    differential::run::silence();
     let mut t = Tape { bytes: Vec::new(), img: Vec::new(), steps: 0, left_out: 0, met: BTreeMap::new() };
     let r = &mut Rng::new(SEED, 0);
     lengths_of_images(&mut t, r);
@@ -570,6 +565,11 @@ fn main() {
     block_zero(&mut t, r);
     t.bytes.push(0x00);
     let path = concat!(env!("CARGO_MANIFEST_DIR"), "/tape.bin");
+    if std::env::args().any(|a| a == "--check") {
+        let same = std::fs::read(path).is_ok_and(|b| b == t.bytes);
+        println!("tape.bin: {} steps, {}", t.steps, if same { "the original's answers" } else { "NOT the original's answers" });
+        std::process::exit(!same as i32);
+    }
     std::fs::write(path, &t.bytes).expect("tape.bin can be written");
     println!("tape.bin: {} steps, {} bytes, CRC-32 {:08x}; {} inputs left out", t.steps, t.bytes.len(), crc32fast::hash(&t.bytes), t.left_out);
     let mut kind = 0;

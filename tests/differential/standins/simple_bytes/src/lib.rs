@@ -153,3 +153,35 @@ impl<const N: usize> BytesWrite for BytesArray<N> {
         self.place = from + bytes.len();
     }
 }
+
+#[cfg(test)]
+mod tests {
+    use super::*;
+
+    /// Numbers stand in the order that their names say, one after the other, and are read back.
+    #[test]
+    fn numbers() {
+        let mut b = BytesArray::from([0u8; 18]);
+        b.write_u8(1);
+        b.write_le_u16(0x0203);
+        b.write_le_u32(0x0405_0607);
+        b.write_le_u64(0x0809_0A0B_0C0D_0E0F);
+        BytesWrite::write(&mut b, [16, 17, 18]);
+        assert_eq!(b.position(), 18);
+        assert_eq!(b.as_slice(), [1, 3, 2, 7, 6, 5, 4, 15, 14, 13, 12, 11, 10, 9, 8, 16, 17, 18]);
+        let all = b.into_array();
+        let mut r = Bytes::from(&all[..]);
+        assert_eq!((r.read_u8(), r.read_le_u16(), r.read_le_u32()), (1, 0x0203, 0x0405_0607));
+        assert_eq!(r.read_le_u64(), 0x0809_0A0B_0C0D_0E0F);
+        assert_eq!(r.remaining(), [16, 17, 18]);
+        BytesSeek::seek(&mut r, 1);
+        assert_eq!(r.read(2), [3, 2]);
+        assert_eq!(BytesSeek::position(&r), 3);
+    }
+
+    #[test]
+    #[should_panic]
+    fn past_the_end() {
+        Bytes::from(&[0u8; 3][..]).read_le_u32();
+    }
+}
