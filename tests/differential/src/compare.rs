@@ -1,7 +1,7 @@
 //! One case on both sides, and whether they agree.
 
 use crate::case::{Answer, Call, Case};
-use crate::listed::{listed, sums_stay, Listed, Original};
+use crate::listed::{ends_process, listed, sums_stay, Listed, Original};
 use crate::original::{self, Did};
 use crate::ported;
 
@@ -142,6 +142,23 @@ pub fn describe(case: &Case, ran: &Ran) -> String {
         changed(&ran.port_img),
         if ran.around { "" } else { "; a byte outside the lent ones changed" },
     )
+}
+
+/// The port alone, where the original is not asked (class I): whether it gives document 01's number and changes nothing.
+pub fn port_alone(case: &Case, number: u32) -> Verdict {
+    let (port, img, around) = run_port(case);
+    if port.number == number && port.values.iter().all(|b| *b == 0) && img == case.img && around {
+        return Verdict::Listed("I");
+    }
+    Verdict::Unlisted(format!("  the original was not asked; the port: {}, due is {number}", port.number))
+}
+
+/// One case from beginning to end.
+pub fn whole(case: &Case) -> Verdict {
+    match ends_process(case) {
+        Some(number) => port_alone(case, number),
+        None => judge(case, &run(case)),
+    }
 }
 
 pub fn judge(case: &Case, ran: &Ran) -> Verdict {

@@ -5,7 +5,7 @@
 use crate::case::{Build, Call, Case, Head};
 use crate::port::{u16_at, u32_at, u64_at};
 
-pub const CLASSES: [(&str, &str); 12] = [
+pub const CLASSES: [(&str, &str); 13] = [
     ("A1", "builder: count times size passes 32 bits; the original panics, 3"),
     ("A2", "builder: the array's start passes 64 bits; the original panics, 3"),
     ("A3", "reading an array whose entry size is not 128; the original panics, 7"),
@@ -18,6 +18,7 @@ pub const CLASSES: [(&str, &str); 12] = [
     ("E", "a lone surrogate in a name; the original reads FFFD, the unit is kept"),
     ("G", "a refused header write; the original's header in memory has the new sums, nothing is returned"),
     ("H", "summing an array of 2^63 bytes or more; the original panics, 2"),
+    ("I", "summing or zeroing more bytes than memory gives; the original would end the process and is not asked, 2, 3 or 7"),
 ];
 
 pub enum Original {
@@ -247,5 +248,40 @@ pub fn sums_stay(case: &Case) -> bool {
         Call::WritePrimary { b, head } => good(*b) && right_place(true, head) && header_does_not_fit(*b, head, case.img.len()),
         Call::WriteBackup { b, head } => good(*b) && right_place(false, head) && header_does_not_fit(*b, head, case.img.len()),
         _ => false,
+    }
+}
+
+/// No more than so many bytes are asked of the original in one buffer, or 2^63 and more, where it panics.
+const MOST: u128 = 1 << 28;
+
+fn too_many(bytes: u128) -> bool {
+    MOST < bytes && bytes < 1 << 63
+}
+
+fn array_too_big(b: u64, head: &Head) -> bool {
+    array(b, head).is_some_and(|(_, bytes)| too_many(bytes))
+}
+
+/// I: the original would take a buffer that memory may not give, and end the process. The answer is document 01's number.
+pub fn ends_process(case: &Case) -> Option<u32> {
+    match &case.call {
+        Call::ArraySum { b, head } if good(*b) && array_too_big(*b, head) => Some(2),
+        Call::WritePrimary { b, head } if good(*b) && right_place(true, head) && array_too_big(*b, head) => Some(2),
+        Call::WriteBackup { b, head } if good(*b) && right_place(false, head) && array_too_big(*b, head) => Some(2),
+        Call::WriteEntry { index, start, b, size, .. } if good(*b) && too_many(u128::from(*size)) => {
+            let at = u128::from(*start) * u128::from(*b) + u128::from(*index) * u128::from(*size);
+            (at < PAST).then_some(7)
+        }
+        Call::WriteZero { index, count, start, b, size } if good(*b) => {
+            let bytes = u128::from(*count) * u128::from(*size);
+            let at = u128::from(*start) * u128::from(*b) + u128::from(*index) * u128::from(*size);
+            let number = match size {
+                1..=4096 if at + bytes >= PAST => 3,
+                1..=4096 => 2,
+                _ => 7,
+            };
+            (at < PAST && too_many(bytes)).then_some(number)
+        }
+        _ => None,
     }
 }

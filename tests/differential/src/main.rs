@@ -32,10 +32,9 @@ fn main() {
         println!("{class:2} {:8}  {text}", t.classes.get(class).unwrap_or(&0));
     }
     println!(
-        "{} cases ({} of the fixed list), {} more not asked of the original, {:.1} s, seed {seed}",
+        "{} cases ({} of the fixed list), {:.1} s, seed {seed}",
         t.cases,
         t.fixed,
-        t.not_asked,
         began.elapsed().as_secs_f64()
     );
     match t.worst {

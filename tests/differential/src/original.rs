@@ -18,9 +18,6 @@ pub enum Did {
     Panicked,
 }
 
-/// No more than so many bytes are asked of the original in one buffer, or 2^63 and more, where it panics; between them the process would end.
-pub const MOST: u128 = 1 << 28;
-
 /// A device of a length and no bytes, for lengths that no memory holds.
 struct Long {
     len: u64,
@@ -412,24 +409,6 @@ fn call(case: &Call, img: &mut [u8]) -> Did {
         }
         Call::Sum => Answer::accepted(crc32fast::hash(img).to_le_bytes()),
     })
-}
-
-/// How many bytes the original would take into one buffer for this call.
-fn buffer(case: &Call) -> u128 {
-    match case {
-        Call::ArraySum { head, .. } | Call::WritePrimary { head, .. } | Call::WriteBackup { head, .. } => {
-            u128::from(u32_at(&head[..], 72)) * u128::from(u32_at(&head[..], 76))
-        }
-        Call::WriteZero { count, size, .. } => u128::from(*count) * u128::from(*size),
-        Call::WriteEntry { size, .. } => u128::from(*size),
-        _ => 0,
-    }
-}
-
-/// Whether the original can be asked at all.
-pub fn askable(case: &Case) -> bool {
-    let n = buffer(&case.call);
-    n <= MOST || (n >= 1 << 63)
 }
 
 /// Runs the original; its panics are caught. `img` holds the case's bytes and then what the original left.

@@ -2,8 +2,9 @@
 
 use crate::case::{Case, CALLS};
 use crate::cases::{fixed, random};
-use crate::compare::{judge, run, Verdict};
-use crate::original::{askable, Did};
+use crate::compare::{judge, port_alone, run, Verdict};
+use crate::listed::ends_process;
+use crate::original::Did;
 use std::collections::BTreeMap;
 use std::thread;
 
@@ -12,7 +13,6 @@ pub struct Tally {
     pub cases: u64,
     /// How many of them are of the fixed list.
     pub fixed: u64,
-    pub not_asked: u64,
     pub per_call: [u64; CALLS.len()],
     /// Cases by call and by the port's number.
     pub numbers: BTreeMap<(usize, u32), u64>,
@@ -30,19 +30,24 @@ fn weight(case: &Case) -> usize {
 
 impl Tally {
     fn take(&mut self, case: Case) {
-        if !askable(&case) {
-            self.not_asked += 1;
-            return;
-        }
-        let ran = run(&case);
         let kind = case.call.kind();
         self.cases += 1;
         self.per_call[kind] += 1;
-        *self.numbers.entry((kind, ran.port.number)).or_default() += 1;
-        if matches!(ran.original, Did::Answered { sums: true, .. }) {
-            *self.classes.entry("G").or_default() += 1;
-        }
-        match judge(&case, &ran) {
+        let verdict = match ends_process(&case) {
+            Some(number) => {
+                *self.numbers.entry((kind, number)).or_default() += 1;
+                port_alone(&case, number)
+            }
+            None => {
+                let ran = run(&case);
+                *self.numbers.entry((kind, ran.port.number)).or_default() += 1;
+                if matches!(ran.original, Did::Answered { sums: true, .. }) {
+                    *self.classes.entry("G").or_default() += 1;
+                }
+                judge(&case, &ran)
+            }
+        };
+        match verdict {
             Verdict::Agree => {}
             Verdict::Listed(class) => *self.classes.entry(class).or_default() += 1,
             Verdict::Unlisted(text) => {
@@ -58,7 +63,6 @@ impl Tally {
     fn join(&mut self, other: Tally) {
         self.cases += other.cases;
         self.fixed += other.fixed;
-        self.not_asked += other.not_asked;
         self.unlisted += other.unlisted;
         for (a, b) in self.per_call.iter_mut().zip(other.per_call) {
             *a += b;

@@ -1,15 +1,11 @@
 //! Makes a case that differs smaller, as long as it still differs.
 
 use crate::case::{Call, Case};
-use crate::compare::{judge, run, Verdict};
-use crate::original::askable;
+use crate::compare::{whole, Verdict};
 
 /// What both sides did, if that is an unlisted difference.
 pub fn differs(case: &Case) -> Option<String> {
-    if !askable(case) {
-        return None;
-    }
-    match judge(case, &run(case)) {
+    match whole(case) {
         Verdict::Unlisted(text) => Some(text),
         _ => None,
     }

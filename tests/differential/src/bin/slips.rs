@@ -3,7 +3,7 @@
 use differential::case::Case;
 use differential::cases::{fixed, random};
 use differential::compare::{judge, run, Verdict};
-use differential::original::askable;
+use differential::listed::ends_process;
 use differential::run::silence;
 use differential::slips::SLIPS;
 
@@ -25,7 +25,7 @@ impl Caught {
     }
 
     fn take(&mut self, case: &Case) {
-        if self.done() || !askable(case) {
+        if self.done() || ends_process(case).is_some() {
             return;
         }
         self.at += 1;

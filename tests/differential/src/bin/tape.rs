@@ -1,12 +1,13 @@
-//! Writes tape.bin, or with --check compares it with what would be written: answers of the Rust original, in the format that README.md describes. Inputs of a listed class are left out. Each answer is
+//! Writes tape.bin (with --check compares it with what would be written, with --slips tells which slips it does not catch): answers of the Rust original, in the format that README.md describes. Inputs of a listed class are left out. Each answer is
 //! also compared with the port's; a difference ends the program.
 
 use differential::case::{Answer, Build, Call, Case, Entry, Head};
 use differential::compare::{describe, judge, run, Verdict};
 use differential::gen::*;
-use differential::listed::listed;
-use differential::original::{askable, Did};
+use differential::listed::{ends_process, listed};
+use differential::original::Did;
 use differential::rng::Rng;
+use differential::slips::{Slip, SLIPS};
 use std::collections::BTreeMap;
 
 const SEED: u64 = 41;
@@ -17,6 +18,7 @@ struct Tape {
     img: Vec<u8>,
     steps: usize,
     left_out: usize,
+    cases: Vec<Case>,
     /// How often a kind of step has a number as its answer.
     met: BTreeMap<(u8, u32), usize>,
 }
@@ -47,7 +49,7 @@ impl Tape {
     /// Asks the original; none if the input is of a listed class.
     fn ask(&mut self, call: Call, img: Vec<u8>) -> Option<(Answer, Vec<u8>)> {
         let case = Case { img, call };
-        if !askable(&case) || listed(&case).is_some() {
+        if ends_process(&case).is_some() || listed(&case).is_some() {
             self.left_out += 1;
             return None;
         }
@@ -55,6 +57,7 @@ impl Tape {
         if !matches!(judge(&case, &ran), Verdict::Agree) {
             panic!("the port parts from the original: {:?}\n{}", case.call, describe(&case, &ran));
         }
+        self.cases.push(case);
         match ran.original {
             Did::Answered { answer, .. } => Some((answer, ran.original_img)),
             Did::Panicked => unreachable!("a panic is no agreement"),
@@ -228,7 +231,6 @@ fn lengths_of_images(t: &mut Tape, r: &mut Rng) {
             let b = b ^ 0x1200;
             t.read_primary(b);
             t.find_backup(b);
-            t.mbr_read(b);
         }
     }
 }
@@ -353,6 +355,9 @@ fn header_writes(t: &mut Tape, r: &mut Rng) {
                 let at = r.below(t.img.len() as u64 + 1) as usize;
                 t.store(at, part);
             }
+            for block in 1..6 {
+                t.store(block * b as usize - 1, &[0x5A]);
+            }
         }
         let blocks = t.img.len() as u64 / b;
         let (count, size) = (r.pick(&[0, 0, 1, 2, 3, 4, 128]), r.pick(&[0, 1, 7, 128, 128, 128, 129, 4096, 4097]));
@@ -384,6 +389,7 @@ fn builds(t: &mut Tape, r: &mut Rng) {
             }
         }
         t.build(Build { primary, which: 0, ..plain.clone() });
+        t.build(Build { primary, backup: 0, count: u32::MAX, size: u32::MAX, which: 25, ..plain.clone() });
         t.build(Build { primary, last: 100, which: 5, ..plain.clone() });
         t.build(Build { primary, count: 4, which: 9, ..plain.clone() });
         for backup in [68, 69] {
@@ -418,7 +424,7 @@ fn builds(t: &mut Tape, r: &mut Rng) {
 
 /// Arrays: presence, names, counts, sums right and wrong, starts at the edges.
 fn arrays(t: &mut Tape, r: &mut Rng) {
-    for round in 0..130 {
+    for round in 0..125 {
         let b = BLOCKS[round % 2];
         let blocks = r.range(1, 4);
         let count = r.below(7) as u32;
@@ -467,6 +473,8 @@ fn device_writes(t: &mut Tape, r: &mut Rng) {
         let b = BLOCKS[round % 2];
         if round % 24 < 2 {
             t.image(length(r, b).clamp(200, 20_000));
+            t.store(0, &r.bytes::<800>());
+            t.store(2 * b as usize, &r.bytes::<300>());
         }
         let blocks = t.img.len() as u64 / b;
         let size = r.pick(&[1, 2, 16, 56, 57, 127, 128, 128, 128, 129, 256, 4095, 4096]);
@@ -547,9 +555,25 @@ fn block_zero(t: &mut Tape, r: &mut Rng) {
     }
 }
 
+/// Which of the slips the tape's inputs do not catch. Those of a listed class cannot be on it.
+fn tell_slips(cases: &[Case]) {
+    let caught = |slip: &Slip| {
+        cases.iter().any(|case| {
+            let mut ran = run(case);
+            (slip.put)(case, &mut ran);
+            matches!(judge(case, &ran), Verdict::Unlisted(_))
+        })
+    };
+    let missed: Vec<&Slip> = SLIPS.iter().filter(|s| !caught(s)).collect();
+    println!("of {} slips the tape catches {}; not these:", SLIPS.len(), SLIPS.len() - missed.len());
+    for slip in missed {
+        println!("  {}", slip.what);
+    }
+}
+
 fn main() {
     differential::run::silence();
-    let mut t = Tape { bytes: Vec::new(), img: Vec::new(), steps: 0, left_out: 0, met: BTreeMap::new() };
+    let mut t = Tape { bytes: Vec::new(), img: Vec::new(), steps: 0, left_out: 0, cases: Vec::new(), met: BTreeMap::new() };
     let r = &mut Rng::new(SEED, 0);
     lengths_of_images(&mut t, r);
     no_block_sizes(&mut t, r);
@@ -565,6 +589,9 @@ fn main() {
     block_zero(&mut t, r);
     t.bytes.push(0x00);
     let path = concat!(env!("CARGO_MANIFEST_DIR"), "/tape.bin");
+    if std::env::args().any(|a| a == "--slips") {
+        return tell_slips(&t.cases);
+    }
     if std::env::args().any(|a| a == "--check") {
         let same = std::fs::read(path).is_ok_and(|b| b == t.bytes);
         println!("tape.bin: {} steps, {}", t.steps, if same { "the original's answers" } else { "NOT the original's answers" });
