@@ -21,6 +21,7 @@ for f in $files; do
     cmp -s "$src/src/$f" "$to/oracle/$f" || cp "$src/src/$f" "$to/oracle/$f"
     cmp "$src/src/$f" "$to/oracle/$f"
 done
+echo 'disable_all_formatting = true' >"$to/oracle/rustfmt.toml"
 cmp -s "$here/standins/logging.rs" "$to/oracle/logging.rs" || cp "$here/standins/logging.rs" "$to/oracle/logging.rs"
 
 if [ ! -f "$to/vendor/.complete" ]; then

@@ -195,7 +195,8 @@ fn header_edges(s: &mut Share, b: u64) {
     let most = u64::MAX / b;
     let blocks = [0, 1, 2, most - 1, most, most + 1, u64::MAX];
     for start in blocks {
-        for (count, size) in [(0, 128), (0, 127), (1, 128), (1, 129), (4, 128), (9, 128), (1, 0), (u32::MAX, u32::MAX), (1 << 31, 1 << 31)] {
+        for (count, size) in [(0, 128), (0, 127), (1, 128), (1, 129), (4, 128), (9, 128), (1, 0), (u32::MAX, u32::MAX), (1 << 31, 1 << 31)]
+        {
             for (current, backup) in blocks.into_iter().flat_map(|c| [(c, 1), (c, c), (c, u64::MAX)]) {
                 let h = with_sum(&img, head(current, backup, 0, 0, [3; 16], start, count, size), b);
                 s.case(&img, || Call::ArraySum { b, head: Box::new(h) });
@@ -230,11 +231,14 @@ fn no_block_size(s: &mut Share, b: u64, img: &[u8]) {
 fn builders(s: &mut Share, b: u64) {
     let guid = [0x11; 16];
     for primary in [true, false] {
-        for (count, size) in [(0, 128), (128, 128), (129, 128), (128, 0), (128, 1), (200, 132), (128, 4096), (u32::MAX, 1), (1 << 20, 4096)] {
+        for (count, size) in [(0, 128), (128, 128), (129, 128), (128, 0), (128, 1), (200, 132), (128, 4096), (u32::MAX, 1), (1 << 20, 4096)]
+        {
             let p = (u64::from(count.max(128)) * u64::from(size)).div_ceil(b);
             for d in 0..6 {
                 for backup in [d, p + d, (2 * p + 2 + d).saturating_sub(2), u64::MAX - d] {
-                    for (first, last) in [(0, 0), (2 + p, 0), (3 + p, 0), (0, backup), (backup, backup), (9, u64::MAX), (u64::MAX, u64::MAX)] {
+                    for (first, last) in
+                        [(0, 0), (2 + p, 0), (3 + p, 0), (0, backup), (backup, backup), (9, u64::MAX), (u64::MAX, u64::MAX)]
+                    {
                         let build = Build { b, primary, guid, backup, first, last, count, size, which: 31 };
                         s.case(&[], || Call::Build(build));
                         let (x, y) = if primary { (1, backup) } else { (backup, 1) };
@@ -274,10 +278,35 @@ fn device_edges(s: &mut Share, b: u64) {
     for start in starts {
         for size in [1u32, 127, 128, 129, 256, 4096] {
             let wide = u64::from(size);
-            let indexes = [0, 1, 2, 3, 4, 5, 7, 8, b / wide, b / wide + 1, (1 << 63) / wide, u64::MAX / wide, (u64::MAX / wide).saturating_add(1), u64::MAX];
+            let indexes = [
+                0,
+                1,
+                2,
+                3,
+                4,
+                5,
+                7,
+                8,
+                b / wide,
+                b / wide + 1,
+                (1 << 63) / wide,
+                u64::MAX / wide,
+                (u64::MAX / wide).saturating_add(1),
+                u64::MAX,
+            ];
             for index in indexes {
                 s.case(&img, || Call::WriteEntry { index, start, b, size, entry: Box::new(entry) });
-                let counts = [0, 1, 2, 1 << 12, (1 << 63) / wide, (1 << 63) / wide + 1, u64::MAX / wide, (u64::MAX / wide).saturating_add(1), u64::MAX];
+                let counts = [
+                    0,
+                    1,
+                    2,
+                    1 << 12,
+                    (1 << 63) / wide,
+                    (1 << 63) / wide + 1,
+                    u64::MAX / wide,
+                    (u64::MAX / wide).saturating_add(1),
+                    u64::MAX,
+                ];
                 for count in counts {
                     s.case(&img, || Call::WriteZero { index, count, start, b, size });
                 }
@@ -345,7 +374,22 @@ fn records(s: &mut Share) {
 fn lengths(s: &mut Share) {
     for b in [0, 1, 511, 512, 4096, 4097, u64::MAX] {
         let most = u64::MAX / b.max(1);
-        let edges = [0, 1, 2, 33, 34, 35, 1 << 32, most.saturating_sub(2), most.saturating_sub(1), most, most.wrapping_add(1), 1 << 63, u64::MAX - 1, u64::MAX];
+        let edges = [
+            0,
+            1,
+            2,
+            33,
+            34,
+            35,
+            1 << 32,
+            most.saturating_sub(2),
+            most.saturating_sub(1),
+            most,
+            most.wrapping_add(1),
+            1 << 63,
+            u64::MAX - 1,
+            u64::MAX,
+        ];
         for first in edges {
             for last in edges {
                 let mut e = [0; 128];
@@ -503,7 +547,10 @@ fn device_case(r: &mut Rng, b: u64, img: Vec<u8>) -> Case {
 }
 
 fn build_case(r: &mut Rng, b: u64) -> Call {
-    let (count, size) = (r.pick(&[0, 1, 127, 128, 129, 130, 256, 4096, u32::MAX]), r.pick(&[0, 1, 64, 128, 128, 128, 129, 256, 4096, 33_554_431, 33_554_432, u32::MAX]));
+    let (count, size) = (
+        r.pick(&[0, 1, 127, 128, 129, 130, 256, 4096, u32::MAX]),
+        r.pick(&[0, 1, 64, 128, 128, 128, 129, 256, 4096, 33_554_431, 33_554_432, u32::MAX]),
+    );
     let p = (u64::from(count.max(128)) * u64::from(size)).div_ceil(b.max(1));
     let near = |r: &mut Rng, v: u64| v.wrapping_add(r.below(7)).wrapping_sub(3);
     let backup = match r.below(6) {
@@ -513,8 +560,20 @@ fn build_case(r: &mut Rng, b: u64) -> Call {
         3 => r.next() >> r.below(64),
         _ => near(r, p.wrapping_mul(2).wrapping_add(3)),
     };
-    let first = if r.one_in(2) { 0 } else if r.one_in(2) { near(r, p.wrapping_add(2)) } else { r.next() >> r.below(64) };
-    let last = if r.one_in(2) { 0 } else if r.one_in(2) { near(r, backup) } else { near(r, u64::MAX - 3) };
+    let first = if r.one_in(2) {
+        0
+    } else if r.one_in(2) {
+        near(r, p.wrapping_add(2))
+    } else {
+        r.next() >> r.below(64)
+    };
+    let last = if r.one_in(2) {
+        0
+    } else if r.one_in(2) {
+        near(r, backup)
+    } else {
+        near(r, u64::MAX - 3)
+    };
     if r.one_in(2) {
         let which = (r.next() & r.next()) as u8 ^ 31;
         Call::Build(Build { b, primary: r.one_in(2), guid: r.bytes(), backup, first, last, count, size, which: which & 31 })

@@ -2,7 +2,7 @@
 
 use crate::case::{Answer, Call, Case};
 use crate::listed::{ends_process, listed, sums_stay, Listed, Original};
-use crate::original::{self, Did};
+use crate::original::{self, Did, NO_NUMBER};
 use crate::ported;
 
 /// What one case came to.
@@ -54,9 +54,7 @@ fn same(ran: &Ran) -> bool {
     match &ran.original {
         Did::Panicked => false,
         Did::Answered { answer, .. } => {
-            answer.number == ran.port.number
-                && (answer.number != 0 || answer.values == ran.port.values)
-                && ran.original_img == ran.port_img
+            answer.number == ran.port.number && (answer.number != 0 || answer.values == ran.port.values) && ran.original_img == ran.port_img
         }
     }
 }
@@ -170,6 +168,9 @@ pub fn judge(case: &Case, ran: &Ran) -> Verdict {
         if !sums_stay(case) {
             return unlisted();
         }
+    }
+    if matches!(&ran.original, Did::Answered { answer, .. } if answer.number == NO_NUMBER) {
+        return unlisted();
     }
     match listed(case) {
         None if same(ran) => Verdict::Agree,

@@ -23,20 +23,14 @@ fn main() {
     let began = Instant::now();
     let t = run::all(seed, cases);
     for (kind, name) in CALLS.iter().enumerate() {
-        let numbers: Vec<String> =
-            t.numbers.range((kind, 0)..(kind + 1, 0)).map(|((_, n), times)| format!("{n}: {times}")).collect();
+        let numbers: Vec<String> = t.numbers.range((kind, 0)..(kind + 1, 0)).map(|((_, n), times)| format!("{n}: {times}")).collect();
         println!("{name:24} {:8} cases; by number {}", t.per_call[kind], numbers.join(", "));
     }
     println!("listed differences met:");
     for (class, text) in CLASSES {
         println!("{class:2} {:8}  {text}", t.classes.get(class).unwrap_or(&0));
     }
-    println!(
-        "{} cases ({} of the fixed list), {:.1} s, seed {seed}",
-        t.cases,
-        t.fixed,
-        began.elapsed().as_secs_f64()
-    );
+    println!("{} cases ({} of the fixed list), {:.1} s, seed {seed}", t.cases, t.fixed, began.elapsed().as_secs_f64());
     match t.worst {
         None => println!("0 unlisted differences"),
         Some((_, case, text)) => {

@@ -140,9 +140,7 @@ pub fn run(case: &Case, img: &mut [u8]) -> Answer {
             Call::WriteEntry { index, start, b, size, entry } => {
                 stored(gpt_write_entry(m, n, partition_of(entry), *index, *start, *b, *size))
             }
-            Call::WriteZero { index, count, start, b, size } => {
-                stored(gpt_write_zero_entries(m, n, *index, *count, *start, *b, *size))
-            }
+            Call::WriteZero { index, count, start, b, size } => stored(gpt_write_zero_entries(m, n, *index, *count, *start, *b, *size)),
             Call::MbrFromBytes { b } => mbr(gpt_mbr_from_bytes(p, n, *b)),
             Call::MbrFromImage { b } => mbr(gpt_mbr_from_image(p, n, *b)),
             Call::MbrNew { size } => {

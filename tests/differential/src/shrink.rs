@@ -27,7 +27,9 @@ fn lent(call: &mut Call) -> Option<&mut [u8]> {
         | Call::BuildFrom { head, .. }
         | Call::ReadArray { head, .. } => Some(&mut head[..]),
         Call::EntryToBytes { entry, .. } | Call::Lengths { entry, .. } | Call::WriteEntry { entry, .. } => Some(&mut entry[..]),
-        Call::RecordGet { mbr, .. } | Call::RecordSet { mbr, .. } | Call::Overwrite { mbr } | Call::Conservative { mbr } => Some(&mut mbr[..]),
+        Call::RecordGet { mbr, .. } | Call::RecordSet { mbr, .. } | Call::Overwrite { mbr } | Call::Conservative { mbr } => {
+            Some(&mut mbr[..])
+        }
         Call::WriteBoot { boot } => Some(&mut boot[..]),
         _ => None,
     }
@@ -91,5 +93,10 @@ pub fn show(case: &Case) -> String {
         runs += &format!(" {at}: {hex}{};", if end - at > 64 { ".." } else { "" });
         at = end;
     }
-    format!("{:?} on {} bytes{}", case.call, case.img.len(), if runs.is_empty() { ", all zero".into() } else { format!(", zero but for{runs}") })
+    format!(
+        "{:?} on {} bytes{}",
+        case.call,
+        case.img.len(),
+        if runs.is_empty() { ", all zero".into() } else { format!(", zero but for{runs}") }
+    )
 }

@@ -457,18 +457,12 @@ pub const SLIPS: &[Slip] = &[
             }
         },
     },
-    Slip {
-        what: "array: presence by type",
-        put: |case, ran| rewrite(case, ran, |raw, e| raw[..16].iter().any(|b| *b != 0).then_some(*e)),
-    },
+    Slip { what: "array: presence by type", put: |case, ran| rewrite(case, ran, |raw, e| raw[..16].iter().any(|b| *b != 0).then_some(*e)) },
     Slip {
         what: "array: presence by the cleared record",
         put: |case, ran| rewrite(case, ran, |_, e| e.iter().any(|b| *b != 0).then_some(*e)),
     },
-    Slip {
-        what: "array: the name is not cleared after its first zero",
-        put: |case, ran| rewrite(case, ran, |raw, _| raw.try_into().ok()),
-    },
+    Slip { what: "array: the name is not cleared after its first zero", put: |case, ran| rewrite(case, ran, |raw, _| raw.try_into().ok()) },
     Slip {
         what: "array: a lone surrogate becomes FFFD",
         put: |case, ran| {

@@ -207,7 +207,8 @@ const NO_BLOCKS: [u64; 12] = [0, 1, 511, 513, 1024, 2048, 4095, 4097, 8192, 1 <<
 fn lengths_of_images(t: &mut Tape, r: &mut Rng) {
     for b in BLOCKS {
         let n = b as usize;
-        let mut lens = vec![0, 1, 91, 92, 127, 128, 439, 440, 443, 444, 446, 510, 511, 512, 513, n - 1, n, n + 1, n + 8, n + 91, n + 92, n + 93];
+        let mut lens =
+            vec![0, 1, 91, 92, 127, 128, 439, 440, 443, 444, 446, 510, 511, 512, 513, n - 1, n, n + 1, n + 8, n + 91, n + 92, n + 93];
         lens.extend([2 * n - 1, 2 * n, 2 * n + 92, 3 * n - 1, 3 * n, 3 * n + 1, 3 * n + 64, 3 * n + 91, 3 * n + 92, 4 * n - 1, 4 * n]);
         for len in lens {
             t.image(len);
@@ -598,7 +599,13 @@ fn main() {
         std::process::exit(!same as i32);
     }
     std::fs::write(path, &t.bytes).expect("tape.bin can be written");
-    println!("tape.bin: {} steps, {} bytes, CRC-32 {:08x}; {} inputs left out", t.steps, t.bytes.len(), crc32fast::hash(&t.bytes), t.left_out);
+    println!(
+        "tape.bin: {} steps, {} bytes, CRC-32 {:08x}; {} inputs left out",
+        t.steps,
+        t.bytes.len(),
+        crc32fast::hash(&t.bytes),
+        t.left_out
+    );
     let mut kind = 0;
     for ((k, number), n) in &t.met {
         if *k != kind {
