@@ -3,7 +3,7 @@ PREFIX ?= /usr/local
 DESTDIR ?=
 VERSION = 0.1.0
 
-.PHONY: demo sums test outside bench lib install boundary example lister-test python interop clean
+.PHONY: demo sums test outside bench lib install boundary example lister-test python interop differential differential-slips clean
 
 # Lays a sample card in a file, with three slots, and lists it.
 demo:
@@ -79,6 +79,14 @@ python: lib
 # Cards beside sgdisk, sfdisk, fdisk and parted (tests/interop).
 interop: lib
 	python3 tests/interop/run.py
+
+# The port beside the Rust original (tests/differential). Variables: GPT_SRC (where the original is), SEED, CASES.
+differential:
+	@tests/differential/run.sh run
+
+# How soon that run catches slips put into the port's answers.
+differential-slips:
+	@tests/differential/run.sh slips
 
 clean:
 	rm -rf target

@@ -37,4 +37,7 @@ run lib "the library for C" cc
 run boundary "every call across the boundary to C" cc
 run python "the Python module's example" python3 cc
 run interop "cards beside sgdisk, sfdisk, fdisk and parted" python3 cc sgdisk sfdisk fdisk parted
+IN_TEST=1
+export IN_TEST
+run differential "the port beside the Rust original" cargo cc
 echo "outside: $ran ran, $skipped skipped"
