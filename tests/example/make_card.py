@@ -3,7 +3,7 @@
 
 make_card.py lister   document 01's example: 68 blocks of 512 bytes, slot 1 at 34 to 34 (crates/lister/stdin)
 make_card.py sample   the sample card: 128 blocks of 512 bytes, three slots           (crates/sample/stdout)
-make_card.py sums     the lines `sum of the image` of crates/cases/stdout, in their order
+make_card.py sums     the lines `digest of the image` of crates/cases/stdout, in their order
 """
 import struct
 import sys
@@ -65,7 +65,7 @@ CARDS = {
 def sums():
     """The images of crates/cases: the smallest card with no slot and with slot 1; a card of three usable blocks with named slots 4 and 6, and with slots 1 and 2."""
     def show(size, blocks, entries):
-        print("%d: sum of the image: %08x" % (size, zlib.crc32(card(blocks, size, entries, 0xA5, 100))))
+        print("%d: digest of the image: %08x" % (size, zlib.crc32(card(blocks, size, entries, 0xA5, 100))))
 
     empty = bytes(128)
     for size, blocks, first in ((512, 68, 34), (4096, 12, 6)):

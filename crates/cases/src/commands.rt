@@ -3,13 +3,10 @@
 use crate::bytes;
 use crate::say;
 use crate::script;
-use mbr::ProtectiveMbr;
-use mbr::RecordRead;
 use partition::NextPartition;
 use partition::Partition;
 use partition::PartitionCount;
 use units::Guid;
-use units::Slot;
 use units::Tail;
 use units::Verdict;
 
@@ -33,13 +30,7 @@ fn basic_data() -> Guid {
     }
 }
 
-pub fn lay(img: &mut [u8], b: u64) {
-    let before = crc32::crc32(img);
-    let v = card::lay(img, b, some_guid(0));
-    say::verdict(v, crc32::crc32(img) == before);
-}
-
-// A record of a type: a slot, first and last block, flags, the name's units.
+// The record of a put: slot, first and last block, flags, the name's units.
 fn record(part_type_guid: Guid, line: &[u8]) -> Partition {
     Partition {
         part_type_guid,
@@ -51,24 +42,23 @@ fn record(part_type_guid: Guid, line: &[u8]) -> Partition {
     }
 }
 
-fn put_record(img: &mut [u8], b: u64, slot: Slot, p: Partition) {
+fn put(img: &mut [u8], b: u64, part_type: Guid, line: &[u8]) -> Verdict {
+    card::put(img, b, script::slot(line, 0), record(part_type, line))
+}
+
+// A call that accepts or refuses: lay, a put of a record whose type is nil, clear, and else a put.
+fn change(img: &mut [u8], b: u64, line: &[u8]) -> Verdict {
+    match script::command(line) {
+        b'l' => card::lay(img, b, some_guid(0)),
+        b'n' => put(img, b, Guid::nil(), line),
+        b'c' => card::clear(img, b, script::slot(line, 0)),
+        _ => put(img, b, basic_data(), line),
+    }
+}
+
+pub fn judge(img: &mut [u8], b: u64, line: &[u8]) {
     let before = crc32::crc32(img);
-    let v = card::put(img, b, slot, p);
-    say::verdict(v, crc32::crc32(img) == before);
-}
-
-pub fn put(img: &mut [u8], b: u64, line: &[u8]) {
-    put_record(img, b, script::slot(line, 0), record(basic_data(), line));
-}
-
-// A put of a record whose type is nil.
-pub fn nil_put(img: &mut [u8], b: u64, line: &[u8]) {
-    put_record(img, b, script::slot(line, 0), record(Guid::nil(), line));
-}
-
-pub fn clear(img: &mut [u8], b: u64, line: &[u8]) {
-    let before = crc32::crc32(img);
-    let v = card::clear(img, b, script::slot(line, 0));
+    let v = change(img, b, line);
     say::verdict(v, crc32::crc32(img) == before);
 }
 
@@ -119,7 +109,8 @@ fn blocks(before: &[u8], p: Partition) {
 
 // A used slot by its number among the used ones, counted from 0.
 pub fn get(img: &[u8], b: u64, line: &[u8]) {
-    let r = card::nth_used(img, b, script::slot(line, 0).0);
+    let k = (script::number(line, 0) % 0x1_0000_0000) as u32;
+    let r = card::nth_used(img, b, k);
     let p = r.partition;
     if r.found {
         say::number(b": slot ", r.slot.0 as u64);
@@ -171,17 +162,4 @@ pub fn read(img: &[u8], b: u64, line: &[u8]) {
 pub fn holds(img: &[u8], b: u64, line: &[u8]) {
     let at = bytes::place(script::block(line, 2), b, script::count(line, 1));
     say::yes(bytes::filled(img, at, script::count(line, 0), script::byte(line, 3)));
-}
-
-// The first record of the protective MBR.
-pub fn mbr(img: &[u8], b: u64) {
-    match ProtectiveMbr::from_image(img, b).mbr.partition(0) {
-        RecordRead::Refused(w) => say::refused(w),
-        RecordRead::Read(p) => {
-            say::number(b": type ", p.os_type as u64);
-            say::number(b", first block ", p.lb_start as u64);
-            say::number(b", blocks ", p.lb_size as u64);
-        }
-    }
-    say::text(b"\n");
 }

@@ -23,7 +23,6 @@ fn look(img: &[u8], b: u64, line: &[u8]) {
         b'r' => commands::read(img, b, line),
         b'd' => say::sum(crc32::crc32(img)),
         b'h' => commands::holds(img, b, line),
-        b'm' => commands::mbr(img, b),
         _ => say::text(b": unknown\n"),
     }
 }
@@ -32,10 +31,7 @@ fn look(img: &[u8], b: u64, line: &[u8]) {
 fn show(img: &mut [u8], b: u64, line: &[u8]) {
     say::start(b, line);
     match script::command(line) {
-        b'l' => commands::lay(img, b),
-        b'p' => commands::put(img, b, line),
-        b'n' => commands::nil_put(img, b, line),
-        b'c' => commands::clear(img, b, line),
+        b'l' | b'p' | b'n' | b'c' => commands::judge(img, b, line),
         b'w' => commands::write(img, b, line),
         b'e' => every::call(img, b),
         _ => look(img, b, line),
