@@ -1,0 +1,199 @@
+//! The card calls: each is one call of the library, with its answer told as a `Result`.
+use crate::refusal::accepted;
+use crate::{ffi, Entry, Guid, Record, Refusal};
+use std::{fmt, iter::FusedIterator, mem::size_of_val, vec};
+
+/// How many slots a card has.
+pub const SLOTS: u32 = 128;
+
+/// The size of a block. A card has one size throughout.
+#[derive(Clone, Copy, Debug, PartialEq, Eq, Hash)]
+pub enum BlockSize {
+    /// 512 bytes.
+    B512,
+    /// 4,096 bytes.
+    B4096,
+}
+
+impl BlockSize {
+    /// How many bytes a block has.
+    pub const fn bytes(self) -> u64 {
+        match self {
+            BlockSize::B512 => 512,
+            BlockSize::B4096 => 4096,
+        }
+    }
+}
+
+/// Any other number than 512 and 4,096 is refused by [`BadBlockSize`](Refusal::BadBlockSize).
+impl TryFrom<u64> for BlockSize {
+    type Error = Refusal;
+
+    fn try_from(bytes: u64) -> Result<BlockSize, Refusal> {
+        match bytes {
+            512 => Ok(BlockSize::B512),
+            4096 => Ok(BlockSize::B4096),
+            _ => Err(Refusal::BadBlockSize),
+        }
+    }
+}
+
+/// A card in a lent image of bytes.
+///
+/// While it lives nobody else can change the image, so that it stays the card that [`lay`](Card::lay) laid or [`open`](Card::open) checked.
+pub struct Card<'image> {
+    image: &'image mut [u8],
+    block_size: BlockSize,
+}
+
+impl<'image> Card<'image> {
+    /// Lays an empty card: the protective MBR, and both tables with 128 unused slots. No other byte changes.
+    ///
+    /// Refused by 8, 10.
+    pub fn lay(image: &'image mut [u8], block_size: BlockSize, guid: Guid) -> Result<Card<'image>, Refusal> {
+        // SAFETY: the pointer and the length are those of one slice that only this call has; a slice's pointer is not null, also where it is empty.
+        let answer = unsafe { ffi::card_lay(image.as_mut_ptr(), image.len(), block_size.bytes(), guid.to_c()) };
+        accepted(answer.number, answer.slot)?;
+        Ok(Card { image, block_size })
+    }
+
+    /// Takes an image that is a whole card already, which [`check`] decides.
+    ///
+    /// Refused by 8, 10; 4, 5, 16, 6 of the front table; 4, 5, 16, 6 of the back table; 17; 16.
+    pub fn open(image: &'image mut [u8], block_size: BlockSize) -> Result<Card<'image>, Refusal> {
+        check(image, block_size)?;
+        Ok(Card { image, block_size })
+    }
+
+    /// Puts a record into a slot of both tables, in place of what the slot held. No byte of a partition changes.
+    ///
+    /// Refused as [`open`](Card::open) is, then by 18, 19, 20, 21, 22.
+    pub fn put(&mut self, slot: u32, record: &Record) -> Result<(), Refusal> {
+        let (image, b) = (&mut *self.image, self.block_size.bytes());
+        // SAFETY: the pointer and the length are those of one slice that only this call has; a slice's pointer is not null, also where it is empty.
+        let answer = unsafe { ffi::card_put(image.as_mut_ptr(), image.len(), b, slot, record.to_c()) };
+        accepted(answer.number, answer.slot)
+    }
+
+    /// Clears a slot in both tables. An unused one is accepted. The partition's bytes stay on the card: clearing does not wipe.
+    ///
+    /// Refused as [`open`](Card::open) is, then by 18.
+    pub fn clear(&mut self, slot: u32) -> Result<(), Refusal> {
+        let (image, b) = (&mut *self.image, self.block_size.bytes());
+        // SAFETY: the pointer and the length are those of one slice that only this call has; a slice's pointer is not null, also where it is empty.
+        let answer = unsafe { ffi::card_clear(image.as_mut_ptr(), image.len(), b, slot) };
+        accepted(answer.number, answer.slot)
+    }
+
+    /// Writes bytes into a slot's partition, from a place on that counts from the partition's first byte, and says how many were written: all of them.
+    ///
+    /// Refused as [`open`](Card::open) is, then by 18, 23, 24.
+    pub fn write_payload(&mut self, slot: u32, place: usize, bytes: &[u8]) -> Result<usize, Refusal> {
+        let (image, b) = (&mut *self.image, self.block_size.bytes());
+        // SAFETY: each pointer and length are those of one slice, not null also where it is empty; `image` is lent to this call alone, so `bytes` is not inside it.
+        let answer = unsafe { ffi::card_write_payload(image.as_mut_ptr(), image.len(), b, slot, place, bytes.as_ptr(), bytes.len()) };
+        accepted(answer.number, 0)?;
+        Ok(answer.bytes as usize)
+    }
+
+    /// What a slot holds, or `None` where it is unused: see [`get`].
+    pub fn get(&self, slot: u32) -> Result<Option<Record>, Refusal> {
+        get(self.image, self.block_size, slot)
+    }
+
+    /// The used slots, ascending, each with its record: see [`list`].
+    pub fn list(&self) -> Result<Listing, Refusal> {
+        list(self.image, self.block_size)
+    }
+
+    /// Runs the card check again: see [`check`].
+    pub fn check(&self) -> Result<(), Refusal> {
+        check(self.image, self.block_size)
+    }
+
+    /// The image's bytes.
+    pub fn bytes(&self) -> &[u8] {
+        self.image
+    }
+
+    /// The size of the card's blocks.
+    pub fn block_size(&self) -> BlockSize {
+        self.block_size
+    }
+}
+
+impl fmt::Debug for Card<'_> {
+    fn fmt(&self, f: &mut fmt::Formatter<'_>) -> fmt::Result {
+        f.debug_struct("Card").field("block_size", &self.block_size).field("len", &self.image.len()).finish()
+    }
+}
+
+/// The card check, on an image that is only read: both tables are whole, laid out as [`Card::lay`] lays them, and say the same; each entry is unused
+/// or has usable blocks of its own. Block 0 is not read.
+///
+/// Refused by 8, 10; 4, 5, 16, 6 of the front table; 4, 5, 16, 6 of the back table; 17; 16.
+pub fn check(image: &[u8], block_size: BlockSize) -> Result<(), Refusal> {
+    // SAFETY: the pointer and the length are those of one slice, which is only read; a slice's pointer is not null, also where it is empty.
+    let answer = unsafe { ffi::card_check(image.as_ptr(), image.len(), block_size.bytes()) };
+    accepted(answer.number, answer.slot)
+}
+
+/// What a slot of a card holds, or `None` where it is unused.
+///
+/// Refused as [`check`] is, then by 18.
+pub fn get(image: &[u8], block_size: BlockSize, slot: u32) -> Result<Option<Record>, Refusal> {
+    // SAFETY: the pointer and the length are those of one slice, which is only read; a slice's pointer is not null, also where it is empty.
+    let answer = unsafe { ffi::card_read_slot(image.as_ptr(), image.len(), block_size.bytes(), slot) };
+    accepted(answer.number, 0)?;
+    Ok((answer.present != 0).then(|| Record::from_c(answer.partition)))
+}
+
+/// The used slots of a card, ascending, each with its record.
+///
+/// Refused as [`check`] is.
+pub fn list(image: &[u8], block_size: BlockSize) -> Result<Listing, Refusal> {
+    let mut rows = vec![ffi::Row::ZERO; SLOTS as usize];
+    let (out, out_len) = (rows.as_mut_ptr().cast::<u8>(), size_of_val(rows.as_slice()));
+    // SAFETY: each pointer and length are those of one slice; `rows` is new, so `image` is not inside it, and its structs take every byte.
+    let answer = unsafe { ffi::card_list(image.as_ptr(), image.len(), block_size.bytes(), out, out_len) };
+    accepted(answer.number, 0)?;
+    rows.truncate(answer.count as usize);
+    Ok(Listing { rows: rows.into_iter() })
+}
+
+/// The entries that [`list`] gives. It holds what the card held when it was made.
+#[derive(Clone)]
+pub struct Listing {
+    rows: vec::IntoIter<ffi::Row>,
+}
+
+fn entry(row: ffi::Row) -> Entry {
+    Entry { slot: row.slot as u32, record: Record::from_c(row.partition) }
+}
+
+impl Iterator for Listing {
+    type Item = Entry;
+
+    fn next(&mut self) -> Option<Entry> {
+        self.rows.next().map(entry)
+    }
+
+    fn size_hint(&self) -> (usize, Option<usize>) {
+        self.rows.size_hint()
+    }
+}
+
+impl DoubleEndedIterator for Listing {
+    fn next_back(&mut self) -> Option<Entry> {
+        self.rows.next_back().map(entry)
+    }
+}
+
+impl ExactSizeIterator for Listing {}
+impl FusedIterator for Listing {}
+
+impl fmt::Debug for Listing {
+    fn fmt(&self, f: &mut fmt::Formatter<'_>) -> fmt::Result {
+        f.debug_list().entries(self.clone()).finish()
+    }
+}

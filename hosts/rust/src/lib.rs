@@ -1,0 +1,38 @@
+//! Cards with a GPT table, as safe Rust over the proved calls of libcard.
+//!
+//! A card is an image of bytes: a protective MBR, a front table, usable blocks, and a back table that says the same as the front one.
+//! A table has 128 slots, counted from 1. [`Card`] lends an image to the calls; nothing is read from or written to a device.
+//!
+//! ```
+//! use card::{BlockSize, Card, Guid, Record};
+//! # fn main() -> Result<(), Box<dyn std::error::Error>> {
+//! let mut image = vec![0; 68 * 512];
+//! let mut card = Card::lay(&mut image, BlockSize::B512, "5a3f1c20-11e7-4b6d-9c04-0242ac110000".parse()?)?;
+//! let map = Record::new(Guid::BASIC_DATA, "5a3f1c20-11e7-4b6d-9c04-0242ac110001".parse()?, 34, 34, "map")?;
+//! card.put(1, &map)?;
+//! card.write_payload(1, 0, b"north ridge")?;
+//! for entry in card.list()? {
+//!     assert_eq!(format!("{} {} {}", entry.slot, entry.record.first, entry.record.name), "1 34 map");
+//! }
+//! assert_eq!(card.put(2, &map).unwrap_err().to_string(), "refused 22, Overlap: a block that slot 1 has");
+//! # Ok(())
+//! # }
+//! ```
+//!
+//! Every call takes every image and every number. It ends, and accepts or gives a [`Refusal`]; a refused call changes no byte of the image.
+//! That is proved of the library; that this crate hands the bytes over rightly is not proved, but tested.
+//!
+//! A program takes the crate by its path, `card = { path = "../dirozhal/hosts/rust" }`, and needs no registry. The crate links `libcard.a`, which `make lib`
+//! writes, from the folder that the environment names in `CARD_LIB_DIR`, or else from the repository's `target/lib`.
+#![deny(missing_docs, clippy::undocumented_unsafe_blocks)]
+
+mod calls;
+mod ffi;
+mod guid;
+mod record;
+mod refusal;
+
+pub use calls::{check, get, list, BlockSize, Card, Listing, SLOTS};
+pub use guid::{Guid, GuidError};
+pub use record::{Entry, Name, NameError, Record};
+pub use refusal::Refusal;

@@ -1,0 +1,121 @@
+//! The numbers by which a call is refused, with their names and meanings.
+use std::{error, fmt};
+
+/// Declares the refusals of the table once: their numbers, names and meanings. 22 stands beside them, since it carries a slot.
+macro_rules! refusals {
+    ($($number:literal $name:ident: $meaning:literal,)*) => {
+        /// Why a call was refused. A refused call changed no byte of the image.
+        #[derive(Clone, Copy, Debug, PartialEq, Eq, Hash)]
+        pub enum Refusal {
+            $(#[doc = concat!(stringify!($number), ": ", $meaning, ".")] $name,)*
+            /// 22: a block that another slot has.
+            Overlap {
+                /// The lowest slot that has such a block.
+                slot: u32,
+            },
+        }
+
+        impl Refusal {
+            /// The number that the library gives, from 1 to 24.
+            pub const fn number(self) -> u32 {
+                match self {
+                    $(Refusal::$name => $number,)*
+                    Refusal::Overlap { .. } => 22,
+                }
+            }
+
+            /// Its name.
+            pub const fn name(self) -> &'static str {
+                match self {
+                    $(Refusal::$name => stringify!($name),)*
+                    Refusal::Overlap { .. } => "Overlap",
+                }
+            }
+
+            /// The refusal of a number. The slot counts for 22 alone; 0 and what is above 24 are no refusals.
+            pub const fn from_number(number: u32, slot: u32) -> Option<Refusal> {
+                match number {
+                    $($number => Some(Refusal::$name),)*
+                    22 => Some(Refusal::Overlap { slot }),
+                    _ => None,
+                }
+            }
+        }
+
+        /// The number, the name and the plain meaning, as `refused 23, EmptySlot: the slot is not used`.
+        impl fmt::Display for Refusal {
+            fn fmt(&self, f: &mut fmt::Formatter<'_>) -> fmt::Result {
+                write!(f, "refused {}, {}: ", self.number(), self.name())?;
+                match self {
+                    $(Refusal::$name => f.write_str($meaning),)*
+                    Refusal::Overlap { slot } => write!(f, "a block that slot {slot} has"),
+                }
+            }
+        }
+    };
+}
+
+refusals! {
+    1 BadBlockSize: "the block size is neither 512 nor 4,096",
+    2 Short: "the bytes to read or write are not all inside the slice",
+    3 Overflow: "a product or sum passes its width",
+    4 InvalidGptSignature: "the header does not begin with EFI PART",
+    5 InvalidCRC32Checksum: "the header's check sum is another",
+    6 PartsCrc: "the entry array's check sum is another",
+    7 BadEntrySize: "an entry size that cannot be read or written",
+    8 ToSmallForBackup: "the image is shorter than three blocks",
+    9 MissingBackupLba: "the backup comes before the primary",
+    10 BackupLbaToEarly: "there is no room between the two tables",
+    11 WritingToWrongLba: "a primary's block is not before its backup's, or a backup's not after its primary's",
+    12 InvalidMBRLength: "the buffer is not one block long",
+    13 InvalidMBRSignature: "bytes 510 and 511 are not 55 AA",
+    14 InvalidPartitionLength: "the MBR record's buffer is not 16 bytes long",
+    15 NoRoom: "more entries are present than there is room for in what was lent",
+    16 WrongLayout: "the table is not laid out as a card's",
+    17 Disagree: "the two tables differ",
+    18 BadSlot: "there is no such slot or record",
+    19 NilType: "a partition of no type",
+    20 BadRange: "the last block comes before the first",
+    21 OutsideUsable: "a block outside the usable ones",
+    23 EmptySlot: "the slot is not used",
+    24 PastPartition: "the bytes pass the partition's end",
+}
+
+impl error::Error for Refusal {}
+
+/// Accepts 0. Any other number is in the table: each export's contract says so.
+pub(crate) fn accepted(number: u32, slot: u32) -> Result<(), Refusal> {
+    match (number, Refusal::from_number(number, slot)) {
+        (0, _) => Ok(()),
+        (_, Some(refusal)) => Err(refusal),
+        _ => unreachable!("libcard gave {number}, which include/card.h does not list"),
+    }
+}
+
+#[cfg(test)]
+mod tests {
+    use super::*;
+
+    /// The numbers, names and meanings are those of the C header's table, and there are no others.
+    #[test]
+    fn refusals_are_those_of_the_header() {
+        let header = include_str!("../../../include/card.h");
+        let lines: Vec<&str> = header.lines().filter(|line| line.starts_with("    CARD_") && line.contains(" = ")).collect();
+        assert_eq!(lines.len(), 25);
+        assert_eq!((Refusal::from_number(0, 0), Refusal::from_number(25, 0)), (None, None));
+        for (number, line) in (1..).zip(&lines[1..]) {
+            let refusal = Refusal::from_number(number, 7).unwrap();
+            let (name, rest) = line.trim().split_once(" = ").unwrap();
+            let (stated, comment) = rest.split_once("/* ").unwrap();
+            let meaning = comment.trim_end_matches(" */");
+            assert_eq!(name.replace(['_'], "")[4..], refusal.name().to_uppercase());
+            assert_eq!(stated.trim().trim_end_matches(',').parse(), Ok(number));
+            assert_eq!(refusal.number(), number);
+            let said = refusal.to_string();
+            match refusal {
+                Refusal::Overlap { slot } => assert_eq!((slot, said.as_str()), (7, "refused 22, Overlap: a block that slot 7 has")),
+                _ => assert_eq!(said, format!("refused {number}, {}: {meaning}", refusal.name())),
+            }
+        }
+    }
+}

@@ -1,0 +1,269 @@
+//! The card calls one by one: what they accept, each refusal that they can give, and that a refused call changes no byte.
+use card::{check, get, list, BlockSize, Card, Entry, Guid, GuidError, Name, NameError, Record, Refusal, SLOTS};
+use BlockSize::{B4096, B512};
+
+const DISK: Guid = Guid::from_fields(0x5a3f1c20, 0x11e7, 0x4b6d, [0x9c, 4, 2, 0x42, 0xac, 0x11, 0, 0]);
+
+/// The blocks of the smallest card, and its only usable block.
+const SMALLEST: [(BlockSize, usize, u64); 2] = [(B512, 68, 34), (B4096, 12, 6)];
+
+fn bytes_of(size: BlockSize) -> usize {
+    size.bytes() as usize
+}
+
+fn record(first: u64, last: u64, name: &str) -> Record {
+    Record::new(Guid::BASIC_DATA, DISK, first, last, name).unwrap()
+}
+
+fn laid(size: BlockSize, blocks: usize) -> Vec<u8> {
+    let mut image = vec![0xa5; blocks * bytes_of(size)];
+    Card::lay(&mut image, size, DISK).unwrap();
+    image
+}
+
+/// Runs a call that must be refused so, and compares every byte of the image with what stood there.
+fn refused<T: std::fmt::Debug>(image: &mut [u8], size: BlockSize, refusal: Refusal, call: impl FnOnce(&mut Card) -> Result<T, Refusal>) {
+    let before = image.to_vec();
+    let mut card = Card::open(image, size).unwrap();
+    assert_eq!(call(&mut card).unwrap_err(), refusal);
+    assert!(image == before, "a byte changed although the call was refused by {}", refusal.number());
+}
+
+/// An image that is no card: every call that reads it is refused so, and none changes it.
+fn no_card(image: &mut [u8], size: BlockSize, refusal: Refusal) {
+    let before = image.to_vec();
+    assert_eq!(check(image, size), Err(refusal));
+    assert_eq!(get(image, size, 1), Err(refusal));
+    assert_eq!(list(image, size).unwrap_err(), refusal);
+    assert_eq!(Card::open(image, size).unwrap_err(), refusal);
+    assert!(image == before);
+}
+
+/// The check sum, bit by bit, to forge headers with.
+fn crc32(bytes: &[u8]) -> u32 {
+    !bytes.iter().fold(!0, |sum, byte| (0..8).fold(sum ^ u32::from(*byte), |s: u32, _| if s & 1 == 1 { s >> 1 ^ 0xedb8_8320 } else { s >> 1 }))
+}
+
+/// Sets both sums of the header at a block right again, for the array at another.
+fn resum(image: &mut [u8], size: BlockSize, header: usize, array: usize) {
+    let (at, start) = (header * bytes_of(size), array * bytes_of(size));
+    let parts = crc32(&image[start..start + 16384]);
+    image[at + 88..at + 92].copy_from_slice(&parts.to_le_bytes());
+    image[at + 16..at + 20].fill(0);
+    let own = crc32(&image[at..at + 92]);
+    image[at + 16..at + 20].copy_from_slice(&own.to_le_bytes());
+}
+
+#[test]
+fn a_card_is_laid_filled_listed_and_cleared() {
+    for (size, blocks, usable) in SMALLEST {
+        let mut image = vec![0xa5; blocks * bytes_of(size)];
+        let payload = usable as usize * bytes_of(size);
+        let mut card = Card::lay(&mut image, size, DISK).unwrap();
+        assert_eq!(card.list().unwrap().len(), 0);
+        assert_eq!(card.get(1), Ok(None));
+        let map = Record { flags: 1 << 60, ..record(usable, usable, "map") };
+        card.put(128, &map).unwrap();
+        assert_eq!(card.get(128), Ok(Some(map)));
+        assert_eq!(card.list().unwrap().collect::<Vec<_>>(), [Entry { slot: 128, record: map }]);
+        assert_eq!(card.write_payload(128, 3, b"north ridge"), Ok(11));
+        assert_eq!(&card.bytes()[payload..payload + 16], b"\xa5\xa5\xa5north ridge\xa5\xa5");
+        card.clear(128).unwrap();
+        card.clear(128).unwrap();
+        assert_eq!(card.list().unwrap().len(), 0);
+        assert_eq!(&card.bytes()[payload + 3..payload + 14], b"north ridge");
+        assert_eq!(card.check(), Ok(()));
+        assert_eq!(card.block_size(), size);
+    }
+}
+
+#[test]
+fn the_example_is_the_stored_card() {
+    let mut image = vec![0; 68 * 512];
+    let guid = |last| Guid::from_fields(0x5a3f1c20, 0x11e7, 0x4b6d, [0x9c, 4, 2, 0x42, 0xac, 0x11, 0, last]);
+    let mut card = Card::lay(&mut image, B512, guid(0)).unwrap();
+    card.put(1, &Record { guid: guid(1), ..record(34, 34, "map") }).unwrap();
+    assert!(image == include_bytes!("../../../crates/lister/stdin"));
+}
+
+#[test]
+fn a_put_replaces_and_may_overlap_itself() {
+    let mut image = laid(B512, 100);
+    let mut card = Card::open(&mut image, B512).unwrap();
+    card.put(2, &record(34, 40, "old")).unwrap();
+    card.put(2, &record(36, 50, "new")).unwrap();
+    assert_eq!(card.list().unwrap().map(|entry| entry.record.name.to_string()).collect::<Vec<_>>(), ["new"]);
+}
+
+#[test]
+fn the_listing_is_an_iterator_from_both_ends() {
+    let mut image = laid(B512, 68 + 127);
+    let mut card = Card::open(&mut image, B512).unwrap();
+    for slot in (1..=SLOTS).rev() {
+        card.put(slot, &record(33 + u64::from(slot), 33 + u64::from(slot), "one block")).unwrap();
+    }
+    let mut listing = card.list().unwrap();
+    assert_eq!((listing.len(), listing.size_hint()), (128, (128, Some(128))));
+    assert!(listing.clone().map(|entry| entry.slot).eq(1..=SLOTS));
+    assert_eq!((listing.next().unwrap().slot, listing.next_back().unwrap().slot, listing.len()), (1, 128, 126));
+}
+
+#[test]
+fn block_sizes_are_two() {
+    assert_eq!([512, 4096].map(BlockSize::try_from), [Ok(B512), Ok(B4096)]);
+    assert_eq!([0, 511, 1024, 1 << 32 | 512, u64::MAX].map(BlockSize::try_from), [Err(Refusal::BadBlockSize); 5]);
+}
+
+#[test]
+fn an_image_that_is_too_small_is_refused() {
+    for (size, blocks, _) in SMALLEST {
+        let block = bytes_of(size);
+        for (len, refusal) in [(0, 8), (3 * block - 1, 8), (3 * block, 10), (blocks * block - 1, 10)] {
+            let mut image = vec![0x5a; len];
+            let before = image.clone();
+            assert_eq!(Card::lay(&mut image, size, DISK).unwrap_err().number(), refusal);
+            no_card(&mut image, size, Refusal::from_number(refusal, 0).unwrap());
+            assert!(image == before);
+        }
+    }
+}
+
+#[test]
+fn a_broken_table_is_refused() {
+    for (size, blocks, _) in SMALLEST {
+        let whole = laid(size, blocks);
+        let array = 16384 / bytes_of(size);
+        for (header, start) in [(1, 2), (blocks - 1, blocks - 1 - array)] {
+            let with = |place: usize, resummed: bool| {
+                let mut image = whole.clone();
+                image[place] ^= 1;
+                if resummed {
+                    resum(&mut image, size, header, start);
+                }
+                image
+            };
+            let at = header * bytes_of(size);
+            no_card(&mut with(at, false), size, Refusal::InvalidGptSignature);
+            no_card(&mut with(at + 91, false), size, Refusal::InvalidCRC32Checksum);
+            no_card(&mut with(at + 48, true), size, Refusal::WrongLayout);
+            no_card(&mut with(start * bytes_of(size) + 16383, false), size, Refusal::PartsCrc);
+            no_card(&mut with(at + 56, true), size, Refusal::Disagree);
+            no_card(&mut with(start * bytes_of(size) + 16383, true), size, Refusal::Disagree);
+        }
+        no_card(&mut [whole, vec![0; bytes_of(size)]].concat(), size, Refusal::WrongLayout);
+    }
+}
+
+#[test]
+fn entries_that_a_card_cannot_have_are_refused() {
+    let mut image = laid(B512, 100);
+    Card::open(&mut image, B512).unwrap().put(1, &record(34, 40, "map")).unwrap();
+    let entry = image[1024..1024 + 128].to_vec();
+    let forged = |slot: usize, entry: &[u8]| {
+        let mut image = image.clone();
+        for (header, array) in [(1, 2), (99, 67)] {
+            let at = array * 512 + (slot - 1) * 128;
+            image[at..at + 128].copy_from_slice(entry);
+            resum(&mut image, B512, header, array);
+        }
+        image
+    };
+    assert_eq!(check(&forged(1, &entry), B512), Ok(()));
+    no_card(&mut forged(2, &entry), B512, Refusal::WrongLayout);
+    no_card(&mut forged(1, &[&[0; 16], &entry[16..]].concat()), B512, Refusal::WrongLayout);
+    no_card(&mut forged(1, &[&entry[..32], &33u64.to_le_bytes(), &entry[40..]].concat()), B512, Refusal::WrongLayout);
+    no_card(&mut forged(1, &[&entry[..40], &67u64.to_le_bytes(), &entry[48..]].concat()), B512, Refusal::WrongLayout);
+}
+
+#[test]
+fn slots_outside_1_to_128_are_refused() {
+    for (size, blocks, usable) in SMALLEST {
+        let mut image = laid(size, blocks);
+        for slot in [0, 129, u32::MAX] {
+            refused(&mut image, size, Refusal::BadSlot, |card| card.put(slot, &record(usable, usable, "map")));
+            refused(&mut image, size, Refusal::BadSlot, |card| card.clear(slot));
+            refused(&mut image, size, Refusal::BadSlot, |card| card.write_payload(slot, 0, b"x"));
+            refused(&mut image, size, Refusal::BadSlot, |card| card.get(slot));
+        }
+    }
+}
+
+#[test]
+fn records_that_a_slot_cannot_hold_are_refused() {
+    for (size, blocks, usable) in SMALLEST {
+        let mut image = laid(size, blocks);
+        let mut put = |refusal, record: Record| refused(&mut image, size, refusal, |card| card.put(1, &record));
+        put(Refusal::NilType, Record { type_guid: Guid::NIL, ..record(usable, usable, "map") });
+        put(Refusal::BadRange, record(usable, usable - 1, "map"));
+        put(Refusal::BadRange, record(u64::MAX, 0, "map"));
+        put(Refusal::OutsideUsable, record(usable - 1, usable, "map"));
+        put(Refusal::OutsideUsable, record(usable, usable + 1, "map"));
+        put(Refusal::OutsideUsable, record(usable, u64::MAX, "map"));
+        Card::open(&mut image, size).unwrap().put(3, &record(usable, usable, "map")).unwrap();
+        refused(&mut image, size, Refusal::Overlap { slot: 3 }, |card| card.put(1, &record(usable, usable, "map")));
+        refused(&mut image, size, Refusal::Overlap { slot: 3 }, |card| card.put(128, &record(usable, usable, "map")));
+    }
+}
+
+#[test]
+fn payload_stays_in_its_partition() {
+    for (size, blocks, usable) in SMALLEST {
+        let mut image = laid(size, blocks);
+        let block = bytes_of(size);
+        refused(&mut image, size, Refusal::EmptySlot, |card| card.write_payload(1, 0, b""));
+        Card::open(&mut image, size).unwrap().put(1, &record(usable, usable, "map")).unwrap();
+        refused(&mut image, size, Refusal::PastPartition, |card| card.write_payload(1, block, b"x"));
+        refused(&mut image, size, Refusal::PastPartition, |card| card.write_payload(1, block + 1, b""));
+        refused(&mut image, size, Refusal::PastPartition, |card| card.write_payload(1, 1, &vec![0; block]));
+        refused(&mut image, size, Refusal::PastPartition, |card| card.write_payload(1, usize::MAX, b"x"));
+        let mut card = Card::open(&mut image, size).unwrap();
+        assert_eq!(card.write_payload(1, block, b""), Ok(0));
+        assert_eq!(card.write_payload(1, 0, &vec![7; block]), Ok(block));
+        assert_eq!(card.write_payload(1, block - 1, b"x"), Ok(1));
+        assert_eq!(card.check(), Ok(()));
+    }
+}
+
+#[test]
+fn names_have_at_most_36_units() {
+    let longest = "é".repeat(36);
+    assert_eq!(Name::new(&longest).unwrap().to_string(), longest);
+    assert_eq!(Name::new(&"é".repeat(37)), Err(NameError::TooLong { units: 37 }));
+    assert_eq!(Name::new(&"🔥".repeat(18)).unwrap().units().len(), 36);
+    assert_eq!("🔥".repeat(19).parse::<Name>(), Err(NameError::TooLong { units: 38 }));
+    assert_eq!(Name::new("a\0b"), Err(NameError::Zero));
+    assert_eq!(NameError::TooLong { units: 38 }.to_string(), "a name has at most 36 UTF-16 units, not 38");
+    assert!(Name::new("map").unwrap() == "map" && Name::new("map").unwrap() != "maps");
+    assert_eq!(format!("[{:>5}] {:?}", Name::new("map").unwrap(), Name::EMPTY), "[  map] Name(\"\")");
+}
+
+#[test]
+fn a_lone_surrogate_is_kept() {
+    let mut units = [0; 36];
+    units[..4].copy_from_slice(&[0x6d, 0xd83d, 0, 0x70]);
+    let name = Name::from_raw(units);
+    units[3] = 0;
+    assert_eq!((name.raw(), name.units(), name.to_string().as_str()), (&units, &[0x6d, 0xd83d][..], "m\u{fffd}"));
+    let mut image = laid(B512, 68);
+    let mut card = Card::open(&mut image, B512).unwrap();
+    card.put(1, &Record { name, ..record(34, 34, "") }).unwrap();
+    assert_eq!(card.get(1).unwrap().unwrap().name.raw(), &units);
+    assert_eq!(card.list().unwrap().next().unwrap().record.name.raw(), &units);
+}
+
+#[test]
+fn guids_read_and_print_in_the_usual_form() {
+    let counted = Guid::from_bytes([0, 1, 2, 3, 4, 5, 6, 7, 8, 9, 10, 11, 12, 13, 14, 15]);
+    assert_eq!(counted.to_fields(), (0x03020100, 0x0504, 0x0706, [8, 9, 10, 11, 12, 13, 14, 15]));
+    assert_eq!(counted.to_string(), "03020100-0504-0706-0809-0a0b0c0d0e0f");
+    assert_eq!("03020100-0504-0706-0809-0A0B0C0D0E0F".parse(), Ok(counted));
+    assert_eq!(Guid::BASIC_DATA.to_string().parse(), Ok(Guid::BASIC_DATA));
+    assert_eq!(Guid::from_bytes(counted.to_bytes()), counted);
+    assert_eq!(format!("{:?}", Guid::NIL), "Guid(00000000-0000-0000-0000-000000000000)");
+    let long = format!("{counted}0");
+    for text in ["", "-", "03020100-0504-0706-0809-0a0b0c0d0e0", &long, "03020100x0504-0706-0809-0a0b0c0d0e0f", "0302010é-0504-0706-0809-0a0b0c0d0e0f"] {
+        assert_eq!(text.parse::<Guid>(), Err(GuidError), "{text}");
+    }
+    assert_eq!("03020100-0504-0706-0809-0a0b0c0d0e-f".parse::<Guid>(), Err(GuidError));
+    assert_eq!("030201000504-0706-0809-0a0b0c0d0e0f".parse::<Guid>(), Err(GuidError));
+}
