@@ -46,7 +46,6 @@ pub fn fixed(part: usize, of: usize, to: &mut dyn FnMut(Case)) {
 
 /// Each call that is lent an image, at one length. Headers and arrays end around the image's end.
 fn at_length(s: &mut Share, b: u64, len: usize) {
-    let n = b as usize;
     let r = &mut Rng::new(b, len as u64);
     let made = card(r, b, len);
     let img = &made.img[..];
@@ -68,32 +67,39 @@ fn at_length(s: &mut Share, b: u64, len: usize) {
     s.case(img, || Call::WriteBoot { boot: Box::new([0x90; 440]) });
     s.case(img, || Call::WriteSignature { signature: [1, 2, 3, 4] });
     for block in 0..3 {
-        let write = head(block, 9, 3, 4, [7; 16], 0, (len as u32 / 128).min(2), 128);
-        s.case(img, || Call::WritePrimary { b, head: Box::new(write) });
-        let write = head(block + 1, 0, 3, 4, [7; 16], block, 1, 64);
-        s.case(img, || Call::WriteBackup { b, head: Box::new(write) });
-        let rest = len.saturating_sub(block as usize * n) as u32;
-        for bytes in [rest.saturating_sub(1), rest, rest + 1] {
-            let sum = head(1, 2, 3, 4, [7; 16], block, 1, bytes);
-            s.case(img, || Call::ArraySum { b, head: Box::new(sum) });
-        }
-        for count in [rest / 128, rest / 128 + 1] {
-            let mut read = head(1, 2, 3, 4, [7; 16], block, count, 128);
-            if let Some(bytes) = img.get(block as usize * n..).and_then(|i| i.get(..count as usize * 128)) {
-                if count > 16 {
-                    continue;
-                }
-                set32(&mut read, ARRAY_SUM, crc32fast::hash(bytes));
+        at_block(s, r, b, img, block);
+    }
+}
+
+/// Headers in and behind a block; arrays and entries from it on that end at the image's end, or pass it.
+fn at_block(s: &mut Share, r: &mut Rng, b: u64, img: &[u8], block: u64) {
+    let (n, len) = (b as usize, img.len());
+    let write = head(block, 9, 3, 4, [7; 16], 0, (len as u32 / 128).min(2), 128);
+    s.case(img, || Call::WritePrimary { b, head: Box::new(write) });
+    let write = head(block + 1, 0, 3, 4, [7; 16], block, 1, 64);
+    s.case(img, || Call::WriteBackup { b, head: Box::new(write) });
+    let rest = len.saturating_sub(block as usize * n) as u32;
+    for bytes in [rest.saturating_sub(1), rest, rest + 1] {
+        let sum = head(1, 2, 3, 4, [7; 16], block, 1, bytes);
+        s.case(img, || Call::ArraySum { b, head: Box::new(sum) });
+    }
+    for count in [rest / 128, rest / 128 + 1] {
+        let mut read = head(1, 2, 3, 4, [7; 16], block, count, 128);
+        if let Some(bytes) = img.get(block as usize * n..).and_then(|i| i.get(..count as usize * 128)) {
+            if count > 16 {
+                continue;
             }
-            s.case(img, || Call::ReadArray { b, head: Box::new(read) });
+            set32(&mut read, ARRAY_SUM, crc32fast::hash(bytes));
         }
-        let size = r.pick(&[1, 100, 128, 200]);
-        for index in [rest / size, (rest / size).saturating_sub(1)] {
-            let (index, start) = (u64::from(index), block);
-            let entry = Box::new(entry(r));
-            s.case(img, || Call::WriteEntry { index, start, b, size, entry });
-            s.case(img, || Call::WriteZero { index, count: r.below(3), start, b, size });
-        }
+        s.case(img, || Call::ReadArray { b, head: Box::new(read) });
+    }
+    let size = r.pick(&[1, 100, 128, 200]);
+    for index in [rest / size, (rest / size).saturating_sub(1)] {
+        let (index, start) = (u64::from(index), block);
+        let entry = Box::new(entry(r));
+        let count = r.below(3);
+        s.case(img, || Call::WriteEntry { index, start, b, size, entry });
+        s.case(img, || Call::WriteZero { index, count, start, b, size });
     }
 }
 
@@ -132,11 +138,13 @@ fn damaged(s: &mut Share, b: u64) {
 /// Every call that a header is given to, and its reading with the sum right and as it was.
 fn one_header(s: &mut Share, b: u64, img: &[u8], h: &Head) {
     let n = b as usize;
-    for whole in [on_card(h), *on_card(h).first_chunk().unwrap()] {
+    let right = on_card(h);
+    let mut as_it_was = right;
+    as_it_was[8..].copy_from_slice(h);
+    for whole in [right, as_it_was] {
         let mut img = img.to_vec();
         img[n..n + 92].copy_from_slice(&whole);
         img[7 * n..7 * n + 92].copy_from_slice(&whole);
-        img[7 * n + 16] ^= 1;
         s.case(&img, || Call::ReadPrimary { b });
         s.case(&img, || Call::ReadBackup { b });
     }
@@ -274,6 +282,7 @@ fn device_edges(s: &mut Share, b: u64) {
             s.case(&img, || Call::WriteZero { index: 1, count: 1, start, b, size });
         }
     }
+    every_size(s, b, &entry);
     let starts = [0, 1, 2, most - 1, most, most + 1, (1 << 63) / b, (1 << 63) / b - 1, u64::MAX];
     for start in starts {
         for size in [1u32, 127, 128, 129, 256, 4096] {
@@ -313,11 +322,16 @@ fn device_edges(s: &mut Share, b: u64) {
             }
         }
     }
+}
+
+/// Device writes with every entry size around 128 and 4,096.
+fn every_size(s: &mut Share, b: u64, entry: &Entry) {
+    let most = u64::MAX / b;
     for size in (0..300).chain(4000..4200).chain([1 << 13, 1 << 20]) {
         let img = [0xEE; 4200];
-        s.case(&img, || Call::WriteEntry { index: 0, start: 0, b, size, entry: Box::new(entry) });
+        s.case(&img, || Call::WriteEntry { index: 0, start: 0, b, size, entry: Box::new(*entry) });
         s.case(&img, || Call::WriteZero { index: 0, count: 1, start: 0, b, size });
-        s.case(&img[..600], || Call::WriteEntry { index: 1, start: 0, b, size, entry: Box::new(entry) });
+        s.case(&img[..600], || Call::WriteEntry { index: 1, start: 0, b, size, entry: Box::new(*entry) });
         s.case(&img, || Call::WriteZero { index: 2, count: 0, start: most, b, size });
     }
 }

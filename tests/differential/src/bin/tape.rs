@@ -606,8 +606,13 @@ fn main() {
         crc32fast::hash(&t.bytes),
         t.left_out
     );
+    tell_numbers(&t.met);
+}
+
+/// How often each kind of step has each number.
+fn tell_numbers(met: &BTreeMap<(u8, u32), usize>) {
     let mut kind = 0;
-    for ((k, number), n) in &t.met {
+    for ((k, number), n) in met {
         if *k != kind {
             print!("{}{k:02x}:", if kind == 0 { "" } else { "\n" });
             kind = *k;
