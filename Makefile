@@ -3,7 +3,11 @@ PREFIX ?= /usr/local
 DESTDIR ?=
 VERSION = 0.1.0
 
+<<<<<<< HEAD
 .PHONY: demo sums test outside bench lib install boundary example lister-test python interop differential differential-slips clean
+=======
+.PHONY: demo sums test outside bench lib install install-test boundary example python rust documents interop clean
+>>>>>>> 3198a1a9cfa5977c720d5baa72635ecab4b4c698
 
 # Lays a sample card in a file, with three slots, and lists it.
 demo:
@@ -45,6 +49,10 @@ install: lib
 	install -m 755 target/bin/lister $(DESTDIR)$(PREFIX)/bin/card-lister
 	printf 'prefix=%s\nlibdir=$${prefix}/lib\nincludedir=$${prefix}/include\n\nName: card\nDescription: GPT cards, every function proved\nVersion: %s\nLibs: -L$${libdir} -lcard\nCflags: -I$${includedir}\n' '$(PREFIX)' '$(VERSION)' > $(DESTDIR)$(PREFIX)/lib/pkgconfig/card.pc
 
+# Installs into an empty folder, and uses what is there: a C program by either library, and the lister (tests/install).
+install-test:
+	tests/install/run.sh
+
 # Measures the check sum beside a plain byte table and zlib, and the card calls, in one run each.
 bench: lib
 	@echo '#include <zlib.h>' | cc -E - >/dev/null 2>&1 || { echo "bench: zlib's header is missing; on Debian: apt-get install zlib1g-dev"; exit 1; }
@@ -76,10 +84,16 @@ lister-test:
 python: lib
 	python3 hosts/python/card.py
 
+# The tests of the Rust crate and of the example in its text; cargo asks no registry.
+rust: lib
+	@cd hosts/rust && CARD_LIB_DIR=../../target/lib CARGO_TARGET_DIR=../../target/rust cargo test --offline >../../target/rust.log 2>&1 || { cat ../../target/rust.log; exit 1; }
+	@awk '/^test result: ok/ { n += $$4 } END { print "rust: " n + 0 " tests ok"; exit n == 0 }' target/rust.log
+
 # Cards beside sgdisk, sfdisk, fdisk and parted (tests/interop).
 interop: lib
 	python3 tests/interop/run.py
 
+<<<<<<< HEAD
 # The port beside the Rust original (tests/differential). Variables: GPT_SRC (where the original is), SEED, CASES.
 differential:
 	@tests/differential/run.sh run
@@ -87,6 +101,11 @@ differential:
 # How soon that run catches slips put into the port's answers.
 differential-slips:
 	@tests/differential/run.sh slips
+=======
+# Every command that the documents mark as run, beside what they say it prints.
+documents: lib
+	tests/documents.sh
+>>>>>>> 3198a1a9cfa5977c720d5baa72635ecab4b4c698
 
 clean:
 	rm -rf target

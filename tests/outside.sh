@@ -36,6 +36,9 @@ run lister-test "the lister" python3
 run lib "the library for C" cc
 run boundary "every call across the boundary to C" cc
 run python "the Python module's example" python3 cc
+run rust "the Rust crate's tests" cargo cc
+run install-test "installed and used from there" cc install
+run documents "the documents' commands print what they say" python3 cc awk diff
 run interop "cards beside sgdisk, sfdisk, fdisk and parted" python3 cc sgdisk sfdisk fdisk parted
 IN_TEST=1
 export IN_TEST
