@@ -3,11 +3,7 @@ PREFIX ?= /usr/local
 DESTDIR ?=
 VERSION = 0.1.0
 
-<<<<<<< HEAD
-.PHONY: demo sums test outside bench lib install boundary example lister-test python interop differential differential-slips clean
-=======
-.PHONY: demo sums test outside bench lib install install-test boundary example python rust documents interop clean
->>>>>>> 3198a1a9cfa5977c720d5baa72635ecab4b4c698
+.PHONY: demo sums test outside bench lib install install-test boundary example lister-test python rust documents interop differential differential-slips clean
 
 # Lays a sample card in a file, with three slots, and lists it.
 demo:
@@ -93,7 +89,6 @@ rust: lib
 interop: lib
 	python3 tests/interop/run.py
 
-<<<<<<< HEAD
 # The port beside the Rust original (tests/differential). Variables: GPT_SRC (where the original is), SEED, CASES.
 differential:
 	@tests/differential/run.sh run
@@ -101,11 +96,10 @@ differential:
 # How soon that run catches slips put into the port's answers.
 differential-slips:
 	@tests/differential/run.sh slips
-=======
+
 # Every command that the documents mark as run, beside what they say it prints.
 documents: lib
 	tests/documents.sh
->>>>>>> 3198a1a9cfa5977c720d5baa72635ecab4b4c698
 
 clean:
 	rm -rf target
