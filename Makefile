@@ -28,10 +28,15 @@ outside:
 	tests/outside.sh
 
 # The library for C and whatever calls C: target/lib/libcard.a and libcard.so; the header is include/card.h.
-lib:
+lib: target/lib/libcard.so
+	@echo "target/lib/libcard.a and target/lib/libcard.so; the header is include/card.h"
+
+target/lib/libcard.a: crates.txt $(shell find crates -name '*.rt' -o -name '*.antt')
 	rt staticlib card_c
 	@mkdir -p target/lib
 	cp target/staticlib/libcard_c.a target/lib/libcard.a
+
+target/lib/libcard.so: target/lib/libcard.a
 	cc -shared -o target/lib/libcard.so -Wl,-soname,libcard.so.0 -Wl,--whole-archive target/lib/libcard.a -Wl,--no-whole-archive
 
 # Header, libraries, lister and a pkg-config file, below DESTDIR and PREFIX.

@@ -14,7 +14,7 @@ skipped() {
 "$here/fetch.sh" || { [ $? = 3 ] && skipped; exit 1; }
 cd "$root"
 if command -v rt >/dev/null 2>&1; then
-    said=$(rt staticlib card_c 2>&1 </dev/null) || { echo "$said"; exit 1; }
+    said=$(make -s lib 2>&1 </dev/null) || { echo "$said"; exit 1; }
 elif [ ! -f target/staticlib/libcard_c.a ]; then
     echo "differential: rt is missing, so there is no target/staticlib/libcard_c.a" >&2
     skipped
