@@ -14,6 +14,7 @@ ghost use lib.Seq.{sets};
 ghost use Rattle.units.specs.Bytes.{part};
 ghost use Rattle.units.specs.Guids.{guidBytes};
 ghost use Rattle.units.specs.Meanings.{verdictMeans};
+ghost use Rattle.crc32.specs.Rows.{Rows};
 ghost use Rattle.tables.specs.Checks.{when, orElse};
 ghost use Rattle.tables.specs.Places.{firstUsable, lastUsable, backArray};
 ghost use Rattle.tables.specs.Lens.{tables, withTables};
@@ -29,10 +30,11 @@ fn bad_slot(slot: Slot) -> bool
 }
 
 // The number of clear: 18 after the check.
-pub fn clear_number(img: &[u8], b: u64, slot: Slot) -> u32
+pub fn clear_number<'a>(t: &'a [u32; 4096], img: &'a [u8], b: u64, slot: Slot) -> u32
+    requires { ⌜ Rows 16 (now t) ⌝ }
     ensures { λ r. ⌜ r ≡ clearNumber b (length (now (img .entry))) (tables b (now (img .entry))) (slot .0) ⌝ }
 {
-    let found = checking::inner::check_number(img, b);
+    let found = checking::inner::check_with(t, img, b);
     if found != 0 {
         return found;
     }
@@ -106,11 +108,11 @@ fn first_met(img: &[u8], at: usize, k: u32, first: u64, last: u64) -> u32
 }
 
 // What put tests, of the record's bytes. 22 has the lowest slot.
-pub fn put_test<'a>(img: &'a [u8], b: u64, slot: Slot, e: &'a [u8]) -> Verdict
-    requires { ⌜ length (now e) ≡ 128 ⌝ }
+pub fn put_test<'a>(t: &'a [u32; 4096], img: &'a [u8], b: u64, slot: Slot, e: &'a [u8]) -> Verdict
+    requires { ⌜ Rows 16 (now t) × (length (now e) ≡ 128) ⌝ }
     ensures { λ r. ⌜ verdictMeans r ≡ judged (putNumber b (length (now (img .entry))) (tables b (now (img .entry))) (slot .0) (now (e .entry))) (putSlot b (length (now (img .entry))) (tables b (now (img .entry))) (slot .0) (now (e .entry))) tt ⌝ }
 {
-    let found = checking::inner::check_number(img, b);
+    let found = checking::inner::check_with(t, img, b);
     if found != 0 {
         return tables::inner::verdict_of(found);
     }
@@ -150,14 +152,14 @@ fn put_slots(img: &mut [u8], b: u64, slot: Slot, e: &[u8])
 }
 
 // The whole change, on a card that the check accepts: the sum is taken once, over the front array.
-pub fn change(img: &mut [u8], b: u64, slot: Slot, e: &[u8])
+pub fn change(t: &[u32; 4096], img: &mut [u8], b: u64, slot: Slot, e: &[u8])
+    requires { ⌜ Rows 16 (now t) ⌝ }
     requires { ⌜ check b (length (now img)) (tables b (now img)) ≡ 0 ⌝ }
     requires { ⌜ (badSlot (slot .0) ≡ false) × (length (now e) ≡ 128) ⌝ }
     ensures { λ _. ⌜ now (img .exit) ≡ withTables b (now (img .entry)) (changed b (length (now (img .entry))) (tables b (now (img .entry))) (slot .0) (now (e .entry))) ⌝ }
 {
     let guid = kept_guid(img, b);
-    let t = crc32::inner::table();
     put_slots(img, b, slot, e);
-    let parts = tables::inner::front_sum(&t, img, b);
-    tables::inner::put_header_blocks(&t, img, b, guid, parts);
+    let parts = tables::inner::front_sum(t, img, b);
+    tables::inner::put_header_blocks(t, img, b, guid, parts);
 }

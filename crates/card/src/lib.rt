@@ -38,10 +38,11 @@ pub fn put(img: &mut [u8], b: u64, slot: Slot, p: Partition) -> Verdict
     ensures { λ r. ⌜ Ends (putOutcome b (now (img .entry)) (slot .0) p) (verdictMeans r) (now (img .exit)) ⌝ }
 {
     let e = changing::record_bytes(p);
-    match changing::put_test(img, b, slot, &e) {
+    let t = crc32::inner::table();
+    match changing::put_test(&t, img, b, slot, &e) {
         Verdict::Refused(w) => Verdict::Refused(w),
         Verdict::Accepted => {
-            changing::change(img, b, slot, &e);
+            changing::change(&t, img, b, slot, &e);
             Verdict::Accepted
         }
     }
@@ -51,12 +52,13 @@ pub fn put(img: &mut [u8], b: u64, slot: Slot, p: Partition) -> Verdict
 pub fn clear(img: &mut [u8], b: u64, slot: Slot) -> Verdict
     ensures { λ r. ⌜ Ends (clearOutcome b (now (img .entry)) (slot .0)) (verdictMeans r) (now (img .exit)) ⌝ }
 {
-    let found = changing::clear_number(img, b, slot);
+    let t = crc32::inner::table();
+    let found = changing::clear_number(&t, img, b, slot);
     if found != 0 {
         return tables::inner::verdict_of(found);
     }
     let e = [0u8; 128];
-    changing::change(img, b, slot, &e);
+    changing::change(&t, img, b, slot, &e);
     Verdict::Accepted
 }
 

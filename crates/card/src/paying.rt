@@ -13,7 +13,8 @@ ghost use Rattle.tables.specs.Calls.{payloadNumber, payloadPlace};
 pub fn payload_number(img: &[u8], b: u64, slot: Slot, place: BytePlace, n: usize) -> u32
     ensures { λ r. ⌜ r ≡ payloadNumber b (length (now (img .entry))) (tables b (now (img .entry))) (slot .0) (place .0) n ⌝ }
 {
-    let found = changing::clear_number(img, b, slot);
+    let t = crc32::inner::table();
+    let found = changing::clear_number(&t, img, b, slot);
     if found != 0 {
         return found;
     }

@@ -264,16 +264,24 @@ fn tables_number<'a>(t: &'a [u32; 4096], img: &'a [u8], b: u64) -> u32
     pair_number(img, front.0, back.0, array.0, agree, b)
 }
 
-// The number of the check, for the calls that it comes first in. The check sum's table is taken here, once.
-pub fn check_number(img: &[u8], b: u64) -> u32
+// The number of the check, for the calls that it comes first in: they lend the check sum's table, and use it again.
+pub fn check_with<'a>(t: &'a [u32; 4096], img: &'a [u8], b: u64) -> u32
+    requires { ⌜ Rows 16 (now t) ⌝ }
     ensures { λ r. ⌜ r ≡ check b (length (now (img .entry))) (tables b (now (img .entry))) ⌝ }
 {
     let room = tables::inner::room_number(img.len(), b);
     if room != 0 {
         return room;
     }
+    tables_number(t, img, b)
+}
+
+// The same with a table of its own.
+pub fn check_number(img: &[u8], b: u64) -> u32
+    ensures { λ r. ⌜ r ≡ check b (length (now (img .entry))) (tables b (now (img .entry))) ⌝ }
+{
     let t = crc32::inner::table();
-    tables_number(&t, img, b)
+    check_with(&t, img, b)
 }
 
 // The card check.

@@ -12,11 +12,14 @@ use Rattle.card.proofs.put.Tie as tie
 record-bytes-requires : tie.Need-record-bytes-requires
 record-bytes-requires c κs = search needs
 
+table-requires : tie.Need-table-requires
+table-requires c κs = search needs
+
 slice-aggregate-put-test : tie.Need-slice-aggregate-put-test
 slice-aggregate-put-test c = search needs
 
 put-test-requires : tie.Need-put-test-requires
-put-test-requires c κs = c .before .before .record-bytes .ensures .1
+put-test-requires c κs = (c .before .before .before .table .ensures, c .before .before .before .before .record-bytes .ensures .1)
 
 enum-known-w : tie.Need-enum-known-w
 enum-known-w c = search needs
@@ -29,18 +32,18 @@ slice-aggregate-change c = search needs
 
 change-requires : tie.Need-change-requires
 change-requires c κs =
-    let a = c .before .before .before .before .before .before .before .before .before .args in
-    let e = c .before .before .before .before .before .before .before .record-bytes .result in
-    let k = put-fine (a .b) (length (a .img .now)) (tables (a .b) (a .img .now)) (a .slot .0) e (judged-zero tt _ _ tt (sym (c .before .before .before .before .put-test .ensures) ∙ ap verdictMeans (c .before .before .enum-told .given .1))) in
-    (k .0, (k .1, c .before .before .before .before .before .before .before .record-bytes .ensures .1))
+    let a = c .before .before .before .before .before .before .before .before .before .before .before .before .args in
+    let e = c .before .before .before .before .before .before .before .before .before .before .record-bytes in
+    let k = put-fine (a .b) (length (a .img .now)) (tables (a .b) (a .img .now)) (a .slot .0) (e .result) (judged-zero tt _ _ tt (sym (c .before .before .before .before .before .put-test .ensures) ∙ ap verdictMeans (c .before .before .before .enum-told .given .1))) in
+    (c .before .before .before .before .before .before .before .before .before .table .ensures, (k .0, (k .1, e .ensures .1)))
 
 same-length : tie.Need-same-length
 same-length c = search needs
 
 returns : tie.Need-returns
 returns c =
-    let a = c .before .before .before .before .before .before .before .before .args in
-    let e = c .before .before .before .before .before .before .record-bytes in
+    let a = c .before .before .before .before .before .before .before .before .before .before .args in
+    let e = c .before .before .before .before .before .before .before .before .record-bytes in
     put-refuses (a .b) (a .img .now) (a .slot .0) (e .result) (e .ensures .0) (sym (ap verdictMeans (c .before .w .given .1)) ∙ c .before .before .before .put-test .ensures)
 
 same-length-2 : tie.Need-same-length-2
@@ -48,22 +51,11 @@ same-length-2 c = search needs
 
 returns-2 : tie.Need-returns-2
 returns-2 c =
-    let a = c .before .before .before .before .before .before .before .before .before .before .before .before .args in
-    let e = c .before .before .before .before .before .before .before .before .before .before .record-bytes in
-    put-ends (a .b) (a .img .now) _ (a .slot .0) (e .result) (e .ensures .0) (judged-zero tt _ _ tt (sym (c .before .before .before .before .before .before .before .put-test .ensures) ∙ ap verdictMeans (c .before .before .before .before .before .enum-told .given .1))) (c .before .before .change .ensures)
+    let a = c .before .before .before .before .before .before .before .before .before .before .before .before .before .before .before .args in
+    let e = c .before .before .before .before .before .before .before .before .before .before .before .before .before .record-bytes in
+    put-ends (a .b) (a .img .now) _ (a .slot .0) (e .result) (e .ensures .0) (judged-zero tt _ _ tt (sym (c .before .before .before .before .before .before .before .before .put-test .ensures) ∙ ap verdictMeans (c .before .before .before .before .before .before .enum-told .given .1))) (c .before .before .change .ensures)
 
 pub put-spec : {M : Type 1} → statement M
 put-spec =
     tie.close
-    (tie.spec
-    record-bytes-requires
-    slice-aggregate-put-test
-    put-test-requires
-    enum-known-w
-    enum-told
-    slice-aggregate-change
-    change-requires
-    same-length
-    returns
-    same-length-2
-    returns-2)
+    (tie.spec record-bytes-requires table-requires slice-aggregate-put-test put-test-requires enum-known-w enum-told slice-aggregate-change change-requires same-length returns same-length-2 returns-2)

@@ -18,25 +18,25 @@ use Rattle.card.proofs.ChangeWays.{recordCheck, record-most, record-fin
 use Rattle.card.proofs.changing.put_test.Statement.{statement}
 use Rattle.card.proofs.changing.put_test.Tie as tie
 
-check-number-requires : tie.Need-check-number-requires
-check-number-requires c κs = search needs
+check-with-requires : tie.Need-check-with-requires
+check-with-requires c κs = search needs
 
 verdict-of-requires : tie.Need-verdict-of-requires
 verdict-of-requires c κs =
     let a = c .before .before .before .before .args in
-    omega (arith, c .before .check-number .ensures, check-most (a .b) (length (a .img .now)) (tables (a .b) (a .img .now)))
+    omega (arith, c .before .check-with .ensures, check-most (a .b) (length (a .img .now)) (tables (a .b) (a .img .now)))
 
 returns : tie.Need-returns
 returns c =
     let a = c .before .before .before .before .before .args in
-    let h = c .before .before .check-number .ensures in
+    let h = c .before .before .check-with .ensures in
     put-judged (a .b) (length (a .img .now)) (tables (a .b) (a .img .now)) (a .slot .0) (a .e .now) (put-found (a .b) (length (a .img .now)) (tables (a .b) (a .img .now)) (a .slot .0) (a .e .now) h (c .before .if1 .taken))
     (λ z. check-never-22 (a .b) (length (a .img .now)) (tables (a .b) (a .img .now)) (sym h ∙ z)) (c .verdict-of .ensures)
 
 record-number-requires : tie.Need-record-number-requires
 record-number-requires c κs =
     let a = c .before .before .before .before .args in
-    (check-has-room (a .b) (a .img .now) (sym (c .before .check-number .ensures) ∙ c .if1 .left), c .before .before .before .before .pre)
+    (check-has-room (a .b) (a .img .now) (sym (c .before .check-with .ensures) ∙ c .if1 .left), c .before .before .before .before .pre .1)
 
 -- the record's number by its name
 record-found : (c : tie.After-record-number) → let a = c .before .before .before .before .before .args in c .record-number .result ≡ recordCheck (a .b) (length (a .img .now)) (a .slot .0) (a .e .now)
@@ -54,7 +54,7 @@ returns-2 c =
     let w = record-found (c .before .before) in
     let m = record-most (a .b) (length (a .img .now)) (a .slot .0) (a .e .now) in
     put-judged (a .b) (length (a .img .now)) (tables (a .b) (a .img .now)) (a .slot .0) (a .e .now)
-    (put-wrong (a .b) (length (a .img .now)) (tables (a .b) (a .img .now)) (a .slot .0) (a .e .now) (c .before .before .before .before .check-number .ensures) (c .before .before .before .if1 .left) w (c .before .if2 .taken))
+    (put-wrong (a .b) (length (a .img .now)) (tables (a .b) (a .img .now)) (a .slot .0) (a .e .now) (c .before .before .before .before .check-with .ensures) (c .before .before .before .if1 .left) w (c .before .if2 .taken))
     (λ z. omega (arith, w, m)) (c .verdict-of2 .ensures)
 
 u64-at-requires : tie.Need-u64-at-requires
@@ -65,7 +65,7 @@ u64-at-requires-2 c κs = search needs
 
 -- what was tested before the slots are looked at
 array-place-requires : tie.Need-array-place-requires
-array-place-requires c κs = let a = c .before .before .before .before .before .before .before .before .args in check-has-room (a .b) (a .img .now) (sym (c .before .before .before .before .before .check-number .ensures) ∙ c .before .before .before .before .if1 .left)
+array-place-requires c κs = let a = c .before .before .before .before .before .before .before .before .args in check-has-room (a .b) (a .img .now) (sym (c .before .before .before .before .before .check-with .ensures) ∙ c .before .before .before .before .if1 .left)
 
 fine : (c : tie.After-u64-at2) → let a = c .before .before .before .before .before .before .before .before .args in (badSlot (a .slot .0) ≡ false) × (used (a .e .now) ≡ true)
 fine c = let a = c .before .before .before .before .before .before .before .before .args in record-fine (a .b) (length (a .img .now)) (a .slot .0) (a .e .now) (sym (record-found (c .before .before .before)) ∙ c .before .before .if2 .left)
@@ -94,20 +94,20 @@ returns-3 c =
     let u = k .before .before .before .before in
     let a = k .before .before .before .before .before .before .before .before .before .before .before .args in
     ap (λ (x : Slot). refused (record { number = 22; slot = x .0 })) (c .slot-at .ensures)
-    ∙ put-met (a .b) (length (a .img .now)) (tables (a .b) (a .img .now)) (a .slot .0) (a .e .now) (u .before .before .before .before .check-number .ensures) (u .before .before .before .if1 .left) (record-found (u .before .before)) (u .before .if2 .left) (met k) (c .before .if3 .taken)
+    ∙ put-met (a .b) (length (a .img .now)) (tables (a .b) (a .img .now)) (a .slot .0) (a .e .now) (u .before .before .before .before .check-with .ensures) (u .before .before .before .if1 .left) (record-found (u .before .before)) (u .before .if2 .left) (met k) (c .before .if3 .taken)
 
 returns-4 : tie.Need-returns-4
 returns-4 c =
     let k = c .before in
     let u = k .before .before .before .before in
     let a = k .before .before .before .before .before .before .before .before .before .before .before .args in
-    put-free (a .b) (length (a .img .now)) (tables (a .b) (a .img .now)) (a .slot .0) (a .e .now) (u .before .before .before .before .check-number .ensures) (u .before .before .before .if1 .left) (record-found (u .before .before)) (u .before .if2 .left) (met k) (c .if3 .left)
+    put-free (a .b) (length (a .img .now)) (tables (a .b) (a .img .now)) (a .slot .0) (a .e .now) (u .before .before .before .before .check-with .ensures) (u .before .before .before .if1 .left) (record-found (u .before .before)) (u .before .if2 .left) (met k) (c .if3 .left)
 
 pub put-test-spec : {M : Type 1} → statement M
 put-test-spec =
     tie.close
     (tie.spec
-    check-number-requires
+    check-with-requires
     verdict-of-requires
     returns
     record-number-requires
