@@ -1,17 +1,16 @@
 -- Numbers as the code comes to them: the room check, one number after another, and the verdict that a number stands for. No contract cites this file.
 -- Assumes nothing.
-use mathlib.Core.Path.{_≡_, sym, ap, _∙_, subst}
-use mathlib.Core.Logic.{_⊎_, inl, inr}
+use mathlib.Core.Path.{_≡_, sym, ap, _∙_}
 use mathlib.Core.Bool.{Bool, true, false, not, _&&_}
 use mathlib.Core.List.{List}
 use Prim.Native.Nat.{ℕ, zero, suc, _+_, _*_, _-_, _/_, _≤_, _<_}
+use native.Mathlib.Nat.{le-div-iff-mul-le}
 use native.Mathlib.Omega.{arith}
-use borrow.Author.Tests.{lt-ltb, le-ltb, not-false}
+use borrow.Author.Tests.{lt-ltb, le-ltb}
 use lib.Dec.{ltb}
 use lib.Seq.{sets}
 use Rattle.units.specs.Bytes.{part, bytes, same}
 use Rattle.units.specs.Places.{goodSize}
-use Rattle.units.proofs.Laws.{good-size}
 use Rattle.crc32.specs.Crc.{crc}
 use Rattle.header.specs.Format.{signature}
 use Rattle.tables.specs.Checks.{when, orElse}
@@ -45,12 +44,8 @@ module _ {r : Bool} (B n : ℕ) (e : r ≡ goodSize B) where
       room-fine h = rw (← e, g, le-ltb _ _ l, le-ltb _ _ h)
 
       -- the blocks are counted before it is known that there are many
-      pub some-blocks : 3 ≤ n / B
-      some-blocks = by-size (good-size B (sym e ∙ not-false r g)) l
-        where
-          by-size : (B ≡ 512) ⊎ (B ≡ 4096) → 3 * B ≤ n → 3 ≤ n / B
-          by-size (inl q) = subst (λ (b : ℕ). 3 * b ≤ n → 3 ≤ n / b) (sym q) (λ h. omega arith)
-          by-size (inr q) = subst (λ (b : ℕ). 3 * b ≤ n → 3 ≤ n / b) (sym q) (λ h. omega arith)
+      pub some-blocks : 0 < B → 3 ≤ n / B
+      some-blocks p = le-div-iff-mul-le p .1 l
 
 -- ---- one number after another
 

@@ -24,8 +24,9 @@ block-count-requires c κs = let p = size-past _ (c .before .before .good-block-
 
 sub-if3 : tie.Need-sub-if3
 sub-if3 c =
-    let p = some-blocks _ _ (c .before .before .before .good-block-size .ensures) (c .before .before .if1 .left) (c .before .if2 .left) in
-    omega (arith, p, c .block-count .ensures)
+    let g = c .before .before .before .good-block-size .ensures in
+    let p = size-past _ g (c .before .before .if1 .left) in
+    omega (arith, some-blocks _ _ g (c .before .before .if1 .left) (c .before .if2 .left) (omega arith), c .block-count .ensures)
 
 div-if3 : tie.Need-div-if3
 div-if3 c = let p = size-past _ (c .before .before .before .good-block-size .ensures) (c .before .before .if1 .left) in omega (arith, p .0)
