@@ -14,8 +14,8 @@ use Rattle.units.specs.declared.Guid.{Guid}
 use Rattle.units.specs.Answer.{Why, Answer, accepted, refused, pick, gives, Ends, ends}
 use Rattle.units.specs.Bytes.{part, num, allZero}
 use Rattle.units.specs.Guids.{guidAt, guidBytes}
+use Rattle.units.specs.Held.{Small}
 use Rattle.units.proofs.Lists.{length-part, part-out, part-same, sets-comm, sets-all}
-use Rattle.units.proofs.Laws.{Small}
 use Rattle.units.proofs.GuidLaws.{guid-bytes-back}
 use Rattle.crc32.specs.Crc.{crc}
 use Rattle.partition.specs.declared.Partition.{Partition}

@@ -12,8 +12,9 @@ use lib.Seq.{sets, take-take}
 use Rattle.units.specs.Answer.{pick}
 use Rattle.units.specs.Bytes.{part, num, bytes, same, allZero}
 use Rattle.units.specs.Places.{goodSize}
+use Rattle.units.specs.Held.{Small}
 use Rattle.units.proofs.Lists.{part-part}
-use Rattle.units.proofs.Laws.{good-size, num-part, Small, small-part}
+use Rattle.units.proofs.Laws.{good-size, num-part, small-part}
 use Rattle.crc32.specs.Crc.{crc}
 use Rattle.crc32.specs.HeaderSum.{headerSum}
 use Rattle.header.specs.declared.Header.{Header}

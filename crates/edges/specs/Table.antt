@@ -1,20 +1,17 @@
--- Document 01's "Cases at the edges", P1 to P14, as one table: what the definitions give beside what the document says. One test computes all of it.
--- Assumes nothing.
-use mathlib.Core.Path.{_≡_, refl, ap}
+-- Document 01's "Cases at the edges", P1 to P14, as one table: what the definitions give beside what the document says. One test computes all of it; what its answer says is in
+-- `proofs/Laws`. Assumes nothing.
+use mathlib.Core.Path.{_≡_, refl}
 use mathlib.Core.Bool.{Bool, true, false, _&&_}
 use mathlib.Core.List.{List, [], _∷_, _++_}
 use Prim.Native.Nat.{ℕ, zero, suc, _-_, _^_}
-use native.Mathlib.Omega.{arith}
-use borrow.Author.Tests.{eqb-true}
 use lib.Dec.{eqb}
 use lib.ListN.{getD, replicate}
 use Rattle.units.specs.declared.Lba.{Lba}
 use Rattle.units.specs.declared.Guid.{Guid}
-use Rattle.units.specs.Answer.{Why, Answer, accepted, refused, numberOf, refuse, andThen}
+use Rattle.units.specs.Answer.{Answer, accepted, refused, numberOf, refuse, andThen}
 use Rattle.units.specs.Bytes.{le, num, bytes, same}
 use Rattle.units.specs.Guids.{guidAt, nilGuid}
 use Rattle.units.specs.Places.{goodSize}
-use Rattle.units.proofs.Laws.{same-true, and-both}
 use Rattle.header.specs.declared.Header.{Header}
 use Rattle.builder.specs.declared.HeaderBuilder.{HeaderBuilder}
 use Rattle.header.specs.Reading.{backupBlock}
@@ -143,22 +140,3 @@ table =
 pub edges : allPass table ≡ true
 unfolding table numbers allPass sameAnswer same built builtWith goodSize sectorsLen backupBlock num le bytes
 edges = refl
-
--- ---- what the test says: two answers that compare as the same are the same, so each case of a table that passes gives what the document says
-
-same-answer : (x y : Answer (List ℕ)) → sameAnswer x y ≡ true → x ≡ y
-unfolding sameAnswer
-same-answer (accepted xs) (accepted ys) e = ap accepted (same-true xs ys e)
-same-answer (accepted xs) (refused w) e = absurd (let z : _≡_ {A = ℕ} 0 1 = cc in omega arith)
-same-answer (refused v) (accepted ys) e = absurd (let z : _≡_ {A = ℕ} 0 1 = cc in omega arith)
-same-answer (refused v) (refused w) e =
-    let b = and-both (eqb (v .number) (w .number)) (eqb (v .slot) (w .slot)) e in
-    let m : _≡_ {A = Why} (record { number = v .number; slot = v .slot }) (record { number = w .number; slot = w .slot }) =
-    cc (eqb-true (v .number) (w .number) (b .0), eqb-true (v .slot) (w .slot) (b .1)) in
-    ap refused m
-
-pub case-passes : (c : Case) (cs : List Case) → allPass (c ∷ cs) ≡ true → (c .computed ≡ c .expected) × (allPass cs ≡ true)
-unfolding allPass
-case-passes c cs e =
-    let b = and-both (sameAnswer (c .computed) (c .expected)) (allPass cs) e in
-    (same-answer (c .computed) (c .expected) (b .0), b .1)

@@ -18,9 +18,10 @@ use Rattle.units.specs.Answer.{Why, Answer, accepted, refused, numberOf, refuse
 use Rattle.units.specs.Bytes.{part, num, bytes, total, laid, same}
 use Rattle.units.specs.Guids.{guidBytes, tailBytes}
 use Rattle.units.specs.Places.{goodSize, inside, insideOrEmpty}
+use Rattle.units.specs.Held.{Small, FitGuid}
 use Rattle.units.proofs.Lists.{part-join, part-part, part-split, drop-sets}
-use Rattle.units.proofs.Laws.{size-range, by-pick, length-bytes, num-drop, le-bytes, Small, small-part, bytes-num, same-refl}
-use Rattle.units.proofs.GuidLaws.{FitGuid, fit-guid-of, guid-here, guid-bytes-back}
+use Rattle.units.proofs.Laws.{size-range, by-pick, length-bytes, num-drop, le-bytes, small-part, bytes-num, same-refl}
+use Rattle.units.proofs.GuidLaws.{fit-guid-of, guid-here, guid-bytes-back}
 use Rattle.crc32.specs.Crc.{crc}
 use Rattle.crc32.specs.Register.{crc-fits}
 use Rattle.crc32.specs.HeaderSum.{blanked, headerSum}

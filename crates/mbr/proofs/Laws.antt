@@ -19,8 +19,9 @@ use mir.Val.{Val}
 use Rattle.units.specs.Answer.{Answer, accepted, refused, numberOf, refuse, pick, gives, Ends}
 use Rattle.units.specs.Bytes.{part, num, bytes, same}
 use Rattle.units.specs.Places.{goodSize, inside}
+use Rattle.units.specs.Held.{Small}
 use Rattle.units.proofs.Lists.{part-join, length-part, part-part, part-split, part-step, part-in, part-same, part-out, sets-then, sets-all, drop-next, drop-sets}
-use Rattle.units.proofs.Laws.{size-range, length-bytes, field-here, num-part, num-out, num-drop, Small, bytes-num, same-refl}
+use Rattle.units.proofs.Laws.{size-range, length-bytes, field-here, num-part, num-out, num-drop, bytes-num, same-refl}
 use Rattle.units.proofs.GuidLaws.{tail-part}
 use Rattle.mbr.proofs.PartRecord.{the-type as record-type, the-field as record-field}
 use Rattle.mbr.proofs.ProtectiveMbr.{the-type as mbr-type}

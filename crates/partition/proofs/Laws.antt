@@ -22,11 +22,13 @@ use Rattle.units.specs.declared.Guid.{Guid}
 use Rattle.units.specs.Answer.{pick}
 use Rattle.units.specs.Bytes.{part, le, num, bytes, allZero}
 use Rattle.units.specs.Guids.{guidAt, guidBytes}
+use Rattle.units.specs.Held.{Small}
 use Rattle.units.proofs.Lists.{part-join, length-part, part-step, part-split, sets-then, drop-sets, drop-next}
-use Rattle.units.proofs.Laws.{length-bytes, num-part, num-drop, num-here, field-here, Small, bytes-num, and-both}
-use Rattle.units.proofs.GuidLaws.{FitGuid, fit-guid-of, length-guid, guid-drop, guid-here, guid-part, guid-bytes-back}
+use Rattle.units.proofs.Laws.{length-bytes, num-part, num-drop, num-here, field-here, bytes-num, and-both}
+use Rattle.units.proofs.GuidLaws.{fit-guid-of, length-guid, guid-drop, guid-here, guid-part, guid-bytes-back}
 use Rattle.partition.specs.declared.Partition.{Partition}
 use Rattle.partition.specs.Format.{unitsAt, unitBytes, firstZero, cleared, entryAt, entryBytes, named, zeroPartition, fitted}
+use Rattle.partition.specs.Held.{FitEntry}
 use Rattle.partition.specs.Array.{present, presentFrom, firstSlot}
 use Rattle.partition.proofs.Partition.{the-type}
 
@@ -187,16 +189,6 @@ copied-more l xs at i n h k =
 
 pub length-entry : (p : Partition) → length (p .name) ≡ 36 → length (entryBytes p) ≡ 128
 length-entry p h = simp (length-append, length-bytes, length-unit-bytes) (omega arith)
-
--- the numbers of an entry fit their fields, and its name has 36 units
-pub record FitEntry (p : Partition) : Type 0 where
-  pub type : FitGuid (p .«part_type_guid»)
-  pub guid : FitGuid (p .«part_guid»)
-  pub first : p .«first_lba» .0 < 2 ^ 64
-  pub last : p .«last_lba» .0 < 2 ^ 64
-  pub flags : p .flags < 2 ^ 64
-  pub long : length (p .name) ≡ 36
-  pub units : (i : ℕ) → getD (p .name) i 0 < 2 ^ 16
 
 -- an entry that the code holds fits: what owning it tells
 pub fit-entry-of : (p : Partition) (vs : List Val) → shadow (row the-type .own p vs) → FitEntry p

@@ -22,7 +22,8 @@ use Rattle.partition.specs.Device.{runPlace, devicePlace, storedAt, entr
 use Rattle.partition.specs.declared.Partition.{Partition}
 use Rattle.partition.specs.Format.{entryAt, entryBytes, named, zeroPartition, fitted}
 use Rattle.partition.specs.Array.{presentFrom, firstSlot, arrayFound, partitionFound, partitionRead, partitionCount, partitionAfter, readingOf}
-use Rattle.partition.proofs.Laws.{FitEntry, length-entry, fitted-same, entry-back, next-none, next-some}
+use Rattle.partition.specs.Held.{FitEntry}
+use Rattle.partition.proofs.Laws.{length-entry, fitted-same, entry-back, next-none, next-some}
 
 -- a range that is inside or empty, and is not empty
 pub inside-filled : (len at n : ℕ) → insideOrEmpty len at n ≡ true → (n ≡ 0 → ⊥) → at + n ≤ len

@@ -9,8 +9,9 @@ use lib.Dec.{eqb}
 use lib.ListN.{length, drop, take-append-drop, length-drop}
 use lib.Seq.{sets, sets-eq, drop-drop, take-all}
 use Rattle.units.specs.Bytes.{part, le, num, bytes, same}
+use Rattle.units.specs.Held.{Small}
 use Rattle.units.proofs.Lists.{length-part}
-use Rattle.units.proofs.Laws.{length-bytes, le-bytes, bytes-num, Small, same-refl, same-true, and-assoc}
+use Rattle.units.proofs.Laws.{length-bytes, le-bytes, bytes-num, same-refl, same-true, and-assoc}
 use Rattle.crc32.specs.Crc.{crc}
 use Rattle.crc32.specs.HeaderSum.{blanked, headerSum}
 use Rattle.header.specs.Format.{signature, headerAt}

@@ -17,6 +17,7 @@ use Rattle.units.specs.Guids.{guidBytes}
 use Rattle.units.proofs.GuidLaws.{length-guid}
 use Rattle.partition.specs.declared.Partition.{Partition}
 use Rattle.partition.specs.Format.{entryAt, named}
+use Rattle.partition.specs.Held.{PartitionHeld}
 use Rattle.partition.proofs.Laws.{length-entry, entry-here}
 use Rattle.mbr.specs.Format.{fresh}
 use Rattle.mbr.specs.Parsing.{imageParsed}
@@ -27,7 +28,7 @@ use Rattle.tables.specs.Entries.{zeros, entry, setEntry}
 use Rattle.tables.specs.Headers.{cardOf}
 use Rattle.tables.specs.Check.{roomCheck, guidOf}
 use Rattle.tables.specs.Calls.{mbr, putBytes, putNumber, putAt, clearNumber, clearAt, payloadNumber, payloadAt, layAt, layOutcome, putOutcome}
-use Rattle.tables.specs.History.{PartitionHeld, Op, put, clear, payload, taken, call}
+use Rattle.tables.specs.History.{Op, put, clear, payload, taken, call}
 use Rattle.tables.proofs.Orders.{by-pick}
 use Rattle.tables.proofs.Room.{Room}
 use Rattle.tables.proofs.LensLaws.{with-beside, whole-tables}

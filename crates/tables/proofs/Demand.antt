@@ -12,12 +12,13 @@ use lib.ListN.{length}
 use Rattle.units.specs.declared.Guid.{Guid}
 use Rattle.units.specs.Answer.{accepted}
 use Rattle.units.specs.Guids.{guidBytes}
+use Rattle.units.specs.Held.{GuidHeld}
 use Rattle.partition.specs.Array.{Found}
 use Rattle.tables.specs.Lens.{Beside}
 use Rattle.tables.specs.Entries.{entry, used, firstOf, lastOf, clash}
 use Rattle.tables.specs.Calls.{layOutcome}
 use Rattle.tables.specs.Listing.{countAnswer}
-use Rattle.tables.specs.History.{GuidHeld, Op, run, emptySlot, told, filledFrom, Within, Apart, Card, Told}
+use Rattle.tables.specs.History.{Op, run, emptySlot, told, filledFrom, Within, Apart, Card, Told}
 use Rattle.tables.proofs.Orders.{split, both}
 use Rattle.tables.proofs.Room.{Room}
 use Rattle.tables.proofs.EntryLaws.{Inside, ok-used}

@@ -12,8 +12,9 @@ use lib.Seq.{take-take}
 use Rattle.units.specs.Answer.{Why, Answer, accepted, refused, refuse}
 use Rattle.units.specs.Bytes.{part, num, same}
 use Rattle.units.specs.Places.{goodSize, inside}
+use Rattle.units.specs.Held.{Small}
 use Rattle.units.proofs.Lists.{length-part, part-part}
-use Rattle.units.proofs.Laws.{Small, small-part, num-part, same-true}
+use Rattle.units.proofs.Laws.{small-part, num-part, same-true}
 use Rattle.units.proofs.GuidLaws.{guid-part}
 use Rattle.crc32.specs.Crc.{crc}
 use Rattle.crc32.specs.Register.{crc-fits}

@@ -12,8 +12,8 @@ use Rattle.units.specs.Answer.{accepted}
 use Rattle.units.specs.Bytes.{part, allZero}
 use Rattle.units.specs.Guids.{guidBytes}
 use Rattle.units.specs.Places.{inside, insideOrEmpty}
+use Rattle.units.specs.Held.{Small, GuidHeld}
 use Rattle.units.proofs.Lists.{part-part, getD-part}
-use Rattle.units.proofs.Laws.{Small}
 use Rattle.crc32.specs.Crc.{crc}
 use Rattle.crc32.specs.Register.{crc-fits}
 use Rattle.header.specs.declared.Header.{Header}
@@ -29,7 +29,7 @@ use Rattle.tables.specs.Places.{blocks, firstUsable, lastUsable, backArr
 use Rattle.tables.specs.Lens.{Tables, tablesAt}
 use Rattle.tables.specs.Entries.{zeros, entry, used}
 use Rattle.tables.specs.Headers.{Side, Front, Back, sealed, copyOf, cardHeader, arrayStart}
-use Rattle.tables.specs.History.{GuidHeld, Reads}
+use Rattle.tables.specs.History.{Reads}
 use Rattle.tables.proofs.Orders.{split, by-test}
 use Rattle.tables.proofs.Room.{Room}
 use Rattle.tables.proofs.EntryLaws.{zero-front, zeros-zero}

@@ -10,14 +10,15 @@ use lib.Seq.{take-at, length-take-le, getD-take, getD-append-add}
 use Rattle.units.specs.declared.Guid.{Guid}
 use Rattle.units.specs.Bytes.{bytes, allZero}
 use Rattle.units.specs.Guids.{guidBytes, isNil}
+use Rattle.units.specs.Held.{Small, GuidHeld}
 use Rattle.units.proofs.Lists.{drop-next}
-use Rattle.units.proofs.Laws.{length-bytes, field-here, Small}
+use Rattle.units.proofs.Laws.{length-bytes, field-here}
 use Rattle.units.proofs.GuidLaws.{length-guid}
 use Rattle.partition.specs.declared.Partition.{Partition}
 use Rattle.partition.specs.Format.{unitBytes, firstZero, cleared, entryBytes, named, zeroPartition}
+use Rattle.partition.specs.Held.{PartitionHeld}
 use Rattle.partition.proofs.Laws.{first-le, length-cleared, cleared-twice}
 use Rattle.tables.specs.Entries.{zeros, used, firstOf, lastOf}
-use Rattle.tables.specs.History.{GuidHeld, PartitionHeld}
 use Rattle.tables.proofs.Orders.{split}
 
 -- ---- the fields of a record's bytes

@@ -14,12 +14,13 @@ use Rattle.units.proofs.GuidLaws.{length-guid}
 use Rattle.partition.specs.declared.Partition.{Partition}
 use Rattle.partition.specs.Format.{entryBytes, named}
 use Rattle.partition.specs.Array.{Found}
+use Rattle.partition.specs.Held.{PartitionHeld}
 use Rattle.partition.proofs.Laws.{length-entry}
 use Rattle.tables.specs.Lens.{tablesAt}
 use Rattle.tables.specs.Entries.{zeros, entry, setEntry, used, firstOf, lastOf}
 use Rattle.tables.specs.Check.{guidOf}
 use Rattle.tables.specs.Calls.{putBytes, layAt, putAt, putNumber, clearAt, clearNumber, payloadAt, payloadNumber, layOutcome}
-use Rattle.tables.specs.History.{PartitionHeld, Op, put, clear, payload, taken, doneAt, call, run, emptySlot, filledSlot, after, told}
+use Rattle.tables.specs.History.{Op, put, clear, payload, taken, doneAt, call, run, emptySlot, filledSlot, after, told}
 use Rattle.tables.proofs.Orders.{by-pick, by-test}
 use Rattle.tables.proofs.EntryLaws.{entry-set, entry-zeros, unused-zeros}
 use Rattle.tables.proofs.State.{taken-zero, untaken-image, State, state-guid, state-front, lay-done}

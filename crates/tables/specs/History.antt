@@ -9,31 +9,18 @@ use lib.Dec.{eqb, leb, ltb}
 use lib.ListN.{length, getD}
 use Rattle.units.specs.declared.Guid.{Guid}
 use Rattle.units.specs.Answer.{Answer, accepted, refused, pick, Outcome}
-use Rattle.units.specs.Guids.{tailBytes}
-use Rattle.units.proofs.Laws.{Small}
-use Rattle.units.proofs.GuidLaws.{FitGuid}
 use Rattle.header.specs.declared.Header.{Header}
 use Rattle.header.specs.Reading.{primaryRead, backupRead}
 use Rattle.partition.specs.declared.Partition.{Partition}
 use Rattle.partition.specs.Format.{named, zeroPartition}
 use Rattle.partition.specs.Array.{Found, arrayFound, partitionRead}
-use Rattle.partition.proofs.Laws.{FitEntry}
+use Rattle.partition.specs.Held.{PartitionHeld}
 use Rattle.tables.specs.Places.{firstUsable, lastUsable, backArray}
 use Rattle.tables.specs.Lens.{Beside}
 use Rattle.tables.specs.Listing.{Listed, entriesAnswer}
 use Rattle.tables.specs.Calls.{putBytes, checkAnswer, putAt, clearAt, payloadAt}
 
 -- ---- calls
-
--- a GUID and a record as the code can hold them: each number fits its field, and a name has 36 units
-pub record GuidHeld (g : Guid) : Type 0 where
-  pub fields : FitGuid g
-  pub tail : Small (tailBytes (g .tail))
-
-pub record PartitionHeld (p : Partition) : Type 0 where
-  pub fields : FitEntry p
-  pub type : GuidHeld (p .«part_type_guid»)
-  pub guid : GuidHeld (p .«part_guid»)
 
 -- a call as a value, with whatever arguments
 pub data Op : Type 0 where

@@ -3,7 +3,7 @@
 use mathlib.Core.Path.{_≡_, refl, sym, ap, _∙_}
 use mathlib.Core.Bool.{true, _&&_}
 use mathlib.Core.List.{List, _∷_, _++_, append-assoc}
-use Prim.Native.Nat.{ℕ, _+_, _-_, _^_, _≤_, _<_}
+use Prim.Native.Nat.{ℕ, _+_, _-_, _≤_, _<_}
 use native.Mathlib.Nat.{add-zero, add-assoc}
 use native.Mathlib.Omega.{arith}
 use lib.Dec.{eqb}
@@ -18,17 +18,12 @@ use Rattle.units.specs.declared.Tail.{Tail}
 use Rattle.units.specs.declared.Guid.{Guid}
 use Rattle.units.specs.Bytes.{part, num, bytes, allZero}
 use Rattle.units.specs.Guids.{tailAt, tailBytes, guidAt, guidBytes, nilGuid, isNil}
+use Rattle.units.specs.Held.{Small, FitGuid}
 use Rattle.units.proofs.Lists.{getD-part, part-split, part-step, drop-sets}
-use Rattle.units.proofs.Laws.{length-bytes, num-part, num-drop, num-here, num-next, Small, bytes-num, zero-append, zero-bytes, zero-at, and-assoc, and-both}
+use Rattle.units.proofs.Laws.{length-bytes, num-part, num-drop, num-here, num-next, bytes-num, zero-append, zero-bytes, zero-at, and-assoc, and-both}
 
 pub length-guid : (g : Guid) → length (guidBytes g) ≡ 16
 length-guid g = simp (length-append, length-bytes)
-
--- the numbers of a GUID fit their fields
-pub record FitGuid (g : Guid) : Type 0 where
-  pub low : g .«time_low» < 2 ^ 32
-  pub mid : g .«time_mid» < 2 ^ 16
-  pub high : g .«time_high» < 2 ^ 16
 
 -- a GUID that the code holds fits: what owning it tells
 pub fit-guid-of : (g : Guid) (vs : List Val) → shadow (row the-type .own g vs) → FitGuid g

@@ -16,6 +16,7 @@ use Rattle.units.specs.declared.BytePlace.{BytePlace}
 use Rattle.units.specs.Answer.{Why, Answer, accepted, refused, refuse, pick}
 use Rattle.units.specs.Bytes.{part, le, num, bytes, total, laid, same, allZero}
 use Rattle.units.specs.Places.{goodSize, inside, placeOf}
+use Rattle.units.specs.Held.{Small}
 use Rattle.units.proofs.Lists.{length-part, part-part, part-in, part-out, part-same, part-step, store-more, sets-then}
 
 -- ---- tests
@@ -217,10 +218,6 @@ unfolding num
 num-back xs at n x h k =
     let l : length (bytes n x) ≡ n = length-bytes n x in
     rw l at (ap le (part-same xs at (bytes n x) (omega arith))) ∙ le-bytes n x h
-
--- every element is a byte
-abbrev pub Small : List ℕ → Type 0
-Small xs = (k : ℕ) → getD xs k 0 < 256
 
 small-take : (n : ℕ) (l : List ℕ) → Small l → Small (take n l)
 small-take zero l h k = omega arith

@@ -5,5 +5,6 @@ pub mod Refusals
 pub mod Places
 pub mod Numbers
 pub mod Guids
+pub mod Held
 pub mod Meanings
 pub mod Examples

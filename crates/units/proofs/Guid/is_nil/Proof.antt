@@ -5,7 +5,8 @@ use mathlib.Core.Logic.{⊎-elim}
 use borrow.Author.Needs.{needs}
 use borrow.Author.Tests.{eq-eqb, ne-eqb}
 use lib.Dec.{eqb}
-use Rattle.units.proofs.GuidLaws.{FitGuid, fit-guid-of, nil-fields}
+use Rattle.units.specs.Held.{FitGuid}
+use Rattle.units.proofs.GuidLaws.{fit-guid-of, nil-fields}
 use Rattle.units.proofs.Guid.is_nil.Statement.{statement}
 use Rattle.units.proofs.Guid.is_nil.Tie as tie
 
