@@ -20,8 +20,8 @@ use Rattle.units.specs.Guids.{guidBytes, tailBytes}
 use Rattle.units.specs.Places.{goodSize, inside, insideOrEmpty}
 use Rattle.units.specs.Held.{Small, FitGuid}
 use Rattle.units.proofs.Lists.{part-join, part-part, part-split, drop-sets}
-use Rattle.units.proofs.Laws.{size-range, by-pick, length-bytes, num-drop, le-bytes, small-part, bytes-num, same-refl}
-use Rattle.units.proofs.GuidLaws.{fit-guid-of, guid-here, guid-bytes-back}
+use Rattle.units.proofs.Laws.{size-range, by-pick, length-bytes, num-drop, le-bytes, small-part, small-eight, bytes-num, same-refl}
+use Rattle.units.proofs.GuidLaws.{guid-held-of, guid-here, guid-bytes-back}
 use Rattle.crc32.specs.Crc.{crc}
 use Rattle.crc32.specs.Register.{crc-fits}
 use Rattle.crc32.specs.HeaderSum.{blanked, headerSum}
@@ -87,26 +87,12 @@ pub record FitHeader (h : Header) : Type 0 where
   pub each : h .«part_size» < 2 ^ 32
   pub parts : h .«crc32_parts» < 2 ^ 32
 
--- eight bytes, given one by one
-small-eight : {a b c d e f g h : ℕ} → a < 256 → b < 256 → c < 256 → d < 256 → e < 256 → f < 256 → g < 256 → h < 256
-    → Small (a ∷ b ∷ c ∷ d ∷ e ∷ f ∷ g ∷ h ∷ [])
-small-eight p q r s t u v w zero = p
-small-eight p q r s t u v w (suc zero) = q
-small-eight p q r s t u v w (suc (suc zero)) = r
-small-eight p q r s t u v w (suc (suc (suc zero))) = s
-small-eight p q r s t u v w (suc (suc (suc (suc zero)))) = t
-small-eight p q r s t u v w (suc (suc (suc (suc (suc zero))))) = u
-small-eight p q r s t u v w (suc (suc (suc (suc (suc (suc zero)))))) = v
-small-eight p q r s t u v w (suc (suc (suc (suc (suc (suc (suc zero))))))) = w
-small-eight p q r s t u v w (suc (suc (suc (suc (suc (suc (suc (suc k)))))))) = omega arith
-
 -- a header that the code holds fits: what owning it tells
 pub fit-header-of : (h : Header) (vs : List Val) → shadow (row the-type .own h vs) → FitHeader h
 fit-header-of h vs o =
     let f = o .1 .1 in
     let g = f .1 .1 .1 .1 .1 .1 .1 .1 in
-    let t = g .0 .1 .1 .1 .1 .1 .0 .1 .1 in
-    let u = t .1 .1 .1 .1 in
+    let d = guid-held-of _ _ (g .0) in
     record {
       major = f .0 .1 .1 .0 .1;
       minor = f .0 .1 .1 .1 .0 .1;
@@ -117,10 +103,8 @@ fit-header-of h vs o =
       backup = f .1 .1 .1 .1 .1 .0 .1 .1 .0 .1;
       first = f .1 .1 .1 .1 .1 .1 .0 .1 .1 .0 .1;
       last = f .1 .1 .1 .1 .1 .1 .1 .0 .1 .1 .0 .1;
-      disk = fit-guid-of _ _ (g .0);
-      tail =
-          small-eight (t .0 .1) (t .1 .0 .1) (t .1 .1 .0 .1) (t .1 .1 .1 .0 .1)
-          (u .0 .1) (u .1 .0 .1) (u .1 .1 .0 .1) (u .1 .1 .1 .0 .1);
+      disk = d .fields;
+      tail = d .tail;
       start = g .1 .0 .1 .1 .0 .1;
       count = g .1 .1 .0 .1;
       each = g .1 .1 .1 .0 .1;

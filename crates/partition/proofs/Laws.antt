@@ -25,10 +25,10 @@ use Rattle.units.specs.Guids.{guidAt, guidBytes}
 use Rattle.units.specs.Held.{Small}
 use Rattle.units.proofs.Lists.{part-join, length-part, part-step, part-split, sets-then, drop-sets, drop-next}
 use Rattle.units.proofs.Laws.{length-bytes, num-part, num-drop, num-here, field-here, bytes-num, and-both}
-use Rattle.units.proofs.GuidLaws.{fit-guid-of, length-guid, guid-drop, guid-here, guid-part, guid-bytes-back}
+use Rattle.units.proofs.GuidLaws.{fit-guid-of, guid-held-of, length-guid, guid-drop, guid-here, guid-part, guid-bytes-back}
 use Rattle.partition.specs.declared.Partition.{Partition}
 use Rattle.partition.specs.Format.{unitsAt, unitBytes, firstZero, cleared, entryAt, entryBytes, named, zeroPartition, fitted}
-use Rattle.partition.specs.Held.{FitEntry}
+use Rattle.partition.specs.Held.{FitEntry, PartitionHeld}
 use Rattle.partition.specs.Array.{present, presentFrom, firstSlot}
 use Rattle.partition.proofs.Partition.{the-type}
 
@@ -203,6 +203,12 @@ fit-entry-of p vs o =
       long = length-unmapped ℕ (p .name) 36 (f .1 .1 .1 .1 .1 .0 .1 .0 .1);
       units = λ i. elem-fits-field w16 w16 (p .name) _ i (f .1 .1 .1 .1 .1 .0 .1 .1) tt .fits;
     }
+
+-- and so do the last eight bytes of its GUIDs: every entry that the code owns is held
+pub partition-held-of : (p : Partition) (vs : List Val) → shadow (row the-type .own p vs) → PartitionHeld p
+partition-held-of p vs o =
+    let f = o .1 .1 in
+    record { fields = fit-entry-of p vs o; type = guid-held-of _ _ (f .0); guid = guid-held-of _ _ (f .1 .0) }
 
 units-drop : (n : ℕ) (xs : List ℕ) (at j : ℕ) → unitsAt n xs (at + j) ≡ unitsAt n (drop at xs) j
 unfolding unitsAt

@@ -18,9 +18,9 @@ use Rattle.units.specs.declared.Tail.{Tail}
 use Rattle.units.specs.declared.Guid.{Guid}
 use Rattle.units.specs.Bytes.{part, num, bytes, allZero}
 use Rattle.units.specs.Guids.{tailAt, tailBytes, guidAt, guidBytes, nilGuid, isNil}
-use Rattle.units.specs.Held.{Small, FitGuid}
+use Rattle.units.specs.Held.{Small, FitGuid, GuidHeld}
 use Rattle.units.proofs.Lists.{getD-part, part-split, part-step, drop-sets}
-use Rattle.units.proofs.Laws.{length-bytes, num-part, num-drop, num-here, num-next, bytes-num, zero-append, zero-bytes, zero-at, and-assoc, and-both}
+use Rattle.units.proofs.Laws.{length-bytes, num-part, num-drop, num-here, num-next, small-eight, bytes-num, zero-append, zero-bytes, zero-at, and-assoc, and-both}
 
 pub length-guid : (g : Guid) → length (guidBytes g) ≡ 16
 length-guid g = simp (length-append, length-bytes)
@@ -28,6 +28,18 @@ length-guid g = simp (length-append, length-bytes)
 -- a GUID that the code holds fits: what owning it tells
 pub fit-guid-of : (g : Guid) (vs : List Val) → shadow (row the-type .own g vs) → FitGuid g
 fit-guid-of g vs o = let f = o .1 .1 in record { low = f .0 .1; mid = f .1 .0 .1; high = f .1 .1 .0 .1 }
+
+-- and so do its last eight bytes: every GUID that the code owns is held
+pub guid-held-of : (g : Guid) (vs : List Val) → shadow (row the-type .own g vs) → GuidHeld g
+guid-held-of g vs o =
+    let t = o .1 .1 .1 .1 .1 .0 .1 .1 in
+    let u = t .1 .1 .1 .1 in
+    record {
+      fields = fit-guid-of g vs o;
+      tail =
+          small-eight (t .0 .1) (t .1 .0 .1) (t .1 .1 .0 .1) (t .1 .1 .1 .0 .1)
+          (u .0 .1) (u .1 .0 .1) (u .1 .1 .0 .1) (u .1 .1 .1 .0 .1);
+    }
 
 guid-eq : {a b c a′ b′ c′ : ℕ} {t t′ : Tail} → a ≡ a′ → b ≡ b′ → c ≡ c′ → t ≡ t′
     → _≡_ {A = Guid}

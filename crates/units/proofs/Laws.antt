@@ -231,6 +231,19 @@ small-drop xs at h k = rw (getD-drop at xs k 0) (h (at + k))
 pub small-part : (xs : List ℕ) (at n : ℕ) → Small xs → Small (part xs at n)
 small-part xs at n h = small-take n (drop at xs) (small-drop xs at h)
 
+-- eight bytes, given one by one
+pub small-eight : {a b c d e f g h : ℕ} → a < 256 → b < 256 → c < 256 → d < 256 → e < 256 → f < 256 → g < 256 → h < 256
+    → Small (a ∷ b ∷ c ∷ d ∷ e ∷ f ∷ g ∷ h ∷ [])
+small-eight p q r s t u v w zero = p
+small-eight p q r s t u v w (suc zero) = q
+small-eight p q r s t u v w (suc (suc zero)) = r
+small-eight p q r s t u v w (suc (suc (suc zero))) = s
+small-eight p q r s t u v w (suc (suc (suc (suc zero)))) = t
+small-eight p q r s t u v w (suc (suc (suc (suc (suc zero))))) = u
+small-eight p q r s t u v w (suc (suc (suc (suc (suc (suc zero)))))) = v
+small-eight p q r s t u v w (suc (suc (suc (suc (suc (suc (suc zero))))))) = w
+small-eight p q r s t u v w (suc (suc (suc (suc (suc (suc (suc (suc k)))))))) = omega arith
+
 le-fits : (n : ℕ) (l : List ℕ) → Small l → le (take n l) < 256 ^ n
 unfolding le
 le-fits zero l h = omega arith
