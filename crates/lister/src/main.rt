@@ -4,13 +4,17 @@ use libc::STDIN_FILENO;
 use libc::STDOUT_FILENO;
 use partition::Length;
 use partition::Partition;
-use partition::PartitionCount;
 use units::Slot;
+use units::Verdict;
 ghost use mathlib.Core.Path.{_≡_};
 ghost use mathlib.Core.Bool.{false};
+ghost use Prim.Native.Nat.{_-_};
 ghost use lib.ListN.{length};
+ghost use Rattle.partition.specs.Array.{present};
+ghost use Rattle.tables.specs.Lens.{tables};
 ghost use Rattle.tables.specs.Check.{roomCheck};
 ghost use Rattle.tables.specs.Calls.{badSlot};
+ghost use Rattle.tables.specs.Listing.{presentSlots};
 
 fn text(s: &[u8]) {
     io::write_all(STDOUT_FILENO, s);
@@ -40,33 +44,41 @@ fn print_line(slot: Slot, p: Partition) {
     }
 }
 
-// The line of a slot, if it is used.
-fn print_slot(img: &[u8], slot: Slot)
+// The line of a slot, if it is used; whether it is.
+fn print_slot(img: &[u8], slot: Slot) -> bool
     requires { ⌜ (roomCheck 512 (length (now img)) ≡ 0) × (badSlot (slot .0) ≡ false) ⌝ }
+    ensures { λ r. ⌜ r ≡ present (tables 512 (now (img .entry)) .front .array) 0 (slot .0 - 1) ⌝ }
 {
-    if listing::inner::slot_present(img, 512, slot) {
+    let used = listing::inner::slot_present(img, 512, slot);
+    if used {
         print_line(slot, listing::inner::slot_entry(img, 512, slot));
     }
+    used
 }
 
-// The lines of the used slots, ascending.
-fn print_slots(img: &[u8])
+// The lines of the used slots, ascending; how many they are. That it is the card's count says that no slot was passed over.
+fn print_slots(img: &[u8]) -> u32
     requires { ⌜ roomCheck 512 (length (now img)) ≡ 0 ⌝ }
+    ensures { λ r. ⌜ r ≡ length (presentSlots (tables 512 (now (img .entry)))) ⌝ }
 {
+    let mut lines = 0;
     let mut place = 0;
     while place < 128 {
-        print_slot(img, units::inner::slot_at(place));
+        if print_slot(img, units::inner::slot_at(place)) {
+            lines += 1;
+        }
         place += 1;
     }
+    lines
 }
 
 fn list(img: &[u8]) {
-    match card::count_used(img, 512) {
-        PartitionCount::Refused(w) => say(b"refused ", w.number() as u64),
-        PartitionCount::Present(n) => {
+    match card::check(img, 512) {
+        Verdict::Refused(w) => say(b"refused ", w.number() as u64),
+        Verdict::Accepted => {
             text(b"slot first last blocks\n");
-            print_slots(img);
-            say(b"used ", n as u64);
+            let lines = print_slots(img);
+            say(b"used ", lines as u64);
         }
     }
 }

@@ -1,13 +1,13 @@
 -- `lister::list` asks for slots only of a card that passed the check. Assumes nothing.
 use mathlib.Core.Path.{sym, ap, _∙_}
 use borrow.Author.Needs.{needs}
-use Rattle.partition.specs.Meanings.{countMeans}
-use Rattle.listing.proofs.Ways.{counted-room}
+use Rattle.units.specs.Meanings.{verdictMeans}
+use Rattle.listing.proofs.Ways.{check-room}
 use Rattle.lister.proofs.list.Statement.{statement}
 use Rattle.lister.proofs.list.Tie as tie
 
-count-used-requires : tie.Need-count-used-requires
-count-used-requires c κs = search needs
+check-requires : tie.Need-check-requires
+check-requires c κs = search needs
 
 enum-known-w : tie.Need-enum-known-w
 enum-known-w c = search needs
@@ -24,8 +24,8 @@ cast-say c = search needs
 say-requires : tie.Need-say-requires
 say-requires c κs = search needs
 
-enum-known-n : tie.Need-enum-known-n
-enum-known-n c = search needs
+enum-told : tie.Need-enum-told
+enum-told c = search needs
 
 slice-aggregate-text : tie.Need-slice-aggregate-text
 slice-aggregate-text c = search needs
@@ -35,8 +35,8 @@ text-requires c κs = search needs
 
 print-slots-requires : tie.Need-print-slots-requires
 print-slots-requires c κs =
-    let a = c .before .before .before .before .before .before .before .args in
-    counted-room 512 (a .img .now) (sym (c .before .before .before .before .before .count-used .ensures) ∙ ap countMeans (c .before .before .before .n .given .1))
+    let a = c .before .before .before .before .before .before .args in
+    check-room 512 (a .img .now) (sym (c .before .before .before .before .check .ensures) ∙ ap verdictMeans (c .before .before .enum-told .given .1))
 
 slice-aggregate-say-2 : tie.Need-slice-aggregate-say-2
 slice-aggregate-say-2 c = search needs
@@ -57,13 +57,13 @@ pub list-spec : {M : Type 1} → statement M
 list-spec =
     tie.close
     (tie.spec
-    count-used-requires
+    check-requires
     enum-known-w
     slice-aggregate-say
     number-requires
     cast-say
     say-requires
-    enum-known-n
+    enum-told
     slice-aggregate-text
     text-requires
     print-slots-requires

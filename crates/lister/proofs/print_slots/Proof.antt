@@ -1,19 +1,28 @@
--- `lister::print_slots` ends, and asks for slots of the card alone. Assumes nothing.
-use native.Mathlib.Omega.{arith}
+-- `lister::print_slots` meets its contract. The invariant: the lines that were printed, and the used slots that are left, are all used slots. Assumes nothing.
+use mathlib.Core.Path.{_≡_, sym, ap, _∙_}
+use mathlib.Core.Logic.{⊎-elim}
 use Prim.Native.Nat.{_+_, _-_, _≤_}
+use native.Mathlib.Omega.{arith}
+use lib.ListN.{length}
 use borrow.Author.Tests.{le-ltb}
 use borrow.Author.Needs.{needs}
+use Rattle.partition.specs.Array.{present, presentFrom}
+use Rattle.partition.proofs.Laws.{from-yes, from-no, from-none}
+use Rattle.tables.specs.Lens.{tables}
+use Rattle.tables.specs.Listing.{presentSlots}
+use Rattle.listing.proofs.Ways.{all-left}
 use Rattle.lister.proofs.print_slots.Statement.{statement}
 use Rattle.lister.proofs.print_slots.Tie as tie
 
 abbrev Inv-loop : tie.InvT-loop
-Inv-loop img place₀ place = place ≤ 128
+Inv-loop img lines₀ place₀ lines place =
+    (place ≤ 128) × (lines ≤ place) × (lines + length (presentFrom (tables 512 img .front .array) 0 place (128 - place)) ≡ length (presentSlots (tables 512 img)))
 
 abbrev μ-loop : tie.MeasureT-loop
-μ-loop img place₀ place = 128 - place
+μ-loop img lines₀ place₀ lines place = 128 - place
 
 loop-holds : tie.Need-loop-holds Inv-loop μ-loop
-loop-holds c = search needs
+loop-holds c = (omega arith, omega arith, omega (arith, ap length (all-left 512 (c .before .args .img .now))))
 
 slot-at-requires : tie.Need-slot-at-requires Inv-loop μ-loop
 slot-at-requires c κs = search needs
@@ -23,17 +32,40 @@ print-slot-requires c κs =
     let p = c .before .before .loop .place in
     (c .before .before .before .before .pre, rw (c .slot-at .ensures, le-ltb (p + 1) 1 (omega arith), le-ltb 128 (p + 1) (omega arith)))
 
+add-lines : tie.Need-add-lines Inv-loop μ-loop
+add-lines c = omega arith
+
 add-place : tie.Need-add-place Inv-loop μ-loop
-add-place c = search needs
+add-place c = omega arith
 
 loop-less : tie.Need-loop-less Inv-loop μ-loop
-loop-less c = search needs
+loop-less c = omega arith
 
 loop-again : tie.Need-loop-again Inv-loop μ-loop
-loop-again c = search needs
+loop-again c =
+    let l = c .before .before .before .before .loop in
+    let xs = c .before .before .before .before .before .before .args .img .now in
+    let arr = tables 512 xs .front .array in
+    let k : c .before .before .slot-at .result .0 - 1 ≡ l .place = rw (c .before .before .slot-at .ensures) (omega arith) in
+    let e = ap (present arr 0) (sym k) ∙ sym (c .before .print-slot .ensures) in
+    ⊎-elim
+    (λ w. (
+      omega arith,
+      omega (arith, w .1),
+      omega (arith, w .1, ap length (from-yes arr 0 (l .place) 128 (omega arith) (e ∙ w .0 .taken))),
+    ))
+    (λ w. (
+      omega arith,
+      omega (arith, w .1),
+      omega (arith, w .1, ap length (from-no arr 0 (l .place) 128 (omega arith) (e ∙ w .0 .left))),
+    ))
+    (c .if1 .came)
 
 returns : tie.Need-returns Inv-loop μ-loop
-returns c = search needs
+returns c =
+    let l = c .before .loop in
+    let xs = c .before .before .before .args .img .now in
+    omega (arith, ap length (from-none (tables 512 xs .front .array) 0 (l .place) 128 (omega arith)))
 
 pub print-slots-spec : {M : Type 1} → statement M
 print-slots-spec =
@@ -44,6 +76,7 @@ print-slots-spec =
     loop-holds
     slot-at-requires
     print-slot-requires
+    add-lines
     add-place
     loop-less
     loop-again
