@@ -152,7 +152,7 @@ pub fn get(image: &[u8], block_size: BlockSize, slot: u32) -> Result<Option<Reco
 ///
 /// Refused as [`check`] is.
 pub fn list(image: &[u8], block_size: BlockSize) -> Result<Listing, Refusal> {
-    let mut rows = vec![ffi::Row::ZERO; SLOTS as usize];
+    let mut rows = vec![ffi::card_row::ZERO; SLOTS as usize];
     let (out, out_len) = (rows.as_mut_ptr().cast::<u8>(), size_of_val(rows.as_slice()));
     // SAFETY: each pointer and length are those of one slice; `rows` is new, so `image` is not inside it, and its structs take every byte.
     let answer = unsafe { ffi::card_list(image.as_ptr(), image.len(), block_size.bytes(), out, out_len) };
@@ -164,10 +164,10 @@ pub fn list(image: &[u8], block_size: BlockSize) -> Result<Listing, Refusal> {
 /// The entries that [`list`] gives. It holds what the card held when it was made.
 #[derive(Clone)]
 pub struct Listing {
-    rows: vec::IntoIter<ffi::Row>,
+    rows: vec::IntoIter<ffi::card_row>,
 }
 
-fn entry(row: ffi::Row) -> Entry {
+fn entry(row: ffi::card_row) -> Entry {
     Entry { slot: row.slot as u32, record: Record::from_c(row.partition) }
 }
 

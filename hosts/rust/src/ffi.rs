@@ -1,65 +1,222 @@
-//! The part of include/card.h that this crate calls, and the layout of each struct in it. No type of this module leaves the crate.
+//! The C interface of libcard, whole: every struct and every function of include/card.h, by their C names. That header says what they mean.
+#![allow(missing_docs, non_camel_case_types)]
+use core::mem::{offset_of, size_of};
 
-/// Declares a struct of the header. Its size and each field's place are asserted while compiling, and kept for the test below.
-macro_rules! header_struct {
-    ($name:ident is $c_name:literal, $size:literal bytes { $($field:ident: $type:ty = $place:literal,)* }) => {
-        #[repr(C)]
-        #[derive(Clone, Copy)]
-        pub struct $name { $(pub $field: $type,)* }
-        impl $name {
-            #[cfg(test)]
-            const LAYOUT: (&'static str, usize, &'static [(&'static str, usize)]) = ($c_name, $size, &[$((stringify!($field), $place),)*]);
-        }
-        const _: () = assert!(core::mem::size_of::<$name>() == $size);
-        $(const _: () = assert!(core::mem::offset_of!($name, $field) == $place);)*
+/// Declares structs of the header: each with its size, and each field behind its place. Both are asserted while compiling, and kept for the test below.
+macro_rules! structs {
+    ($($name:ident $size:literal { $($place:literal $field:ident: $type:ty),* })*) => {
+        $(
+            #[repr(C)]
+            #[derive(Clone, Copy, Debug, PartialEq, Eq)]
+            pub struct $name { $(pub $field: $type),* }
+            const _: () = assert!(size_of::<$name>() == $size);
+            $(const _: () = assert!(offset_of!($name, $field) == $place);)*
+        )*
+
+        /// Name and size of each struct; place, name and type of each of its fields.
+        #[cfg(test)]
+        const STRUCTS: &[(&str, usize, &[(usize, &str, &str)])] =
+            &[$((stringify!($name), $size, &[$(($place, stringify!($field), stringify!($type))),*])),*];
     };
 }
 
-header_struct!(Guid is "gpt_guid", 16 bytes { time_low: u32 = 0, time_mid: u16 = 4, time_high: u16 = 6, tail: [u8; 8] = 8, });
-header_struct!(Partition is "gpt_partition", 128 bytes {
-    part_type_guid: Guid = 0, part_guid: Guid = 16, first_lba: u64 = 32, last_lba: u64 = 40, flags: u64 = 48, name: [u16; 36] = 56,
-});
-header_struct!(Answer is "card_answer", 8 bytes { number: u32 = 0, slot: u32 = 4, });
-header_struct!(Stored is "gpt_stored", 16 bytes { number: u32 = 0, bytes: u64 = 8, });
-header_struct!(Count is "gpt_count", 8 bytes { number: u32 = 0, count: u32 = 4, });
-// C's bool is taken as a byte, so that no value of it could be undefined here.
-header_struct!(SlotRead is "gpt_slot_read", 136 bytes { number: u32 = 0, present: u8 = 4, partition: Partition = 8, });
-header_struct!(Row is "card_row", 136 bytes { slot: u64 = 0, partition: Partition = 8, });
+/// Declares functions of the header.
+macro_rules! functions {
+    ($(fn $name:ident($($parameter:ident: $type:ty),*) $(-> $answer:ty)?;)*) => {
+        extern "C" { $(pub fn $name($($parameter: $type),*) $(-> $answer)?;)* }
 
-const _: () = assert!(core::mem::size_of::<bool>() == core::mem::size_of::<u8>());
-const _: () = assert!(core::mem::size_of::<usize>() == 8, "libcard is for x86-64");
-
-impl Row {
-    pub const ZERO: Row = {
-        let nil = Guid { time_low: 0, time_mid: 0, time_high: 0, tail: [0; 8] };
-        Row { slot: 0, partition: Partition { part_type_guid: nil, part_guid: nil, first_lba: 0, last_lba: 0, flags: 0, name: [0; 36] } }
+        /// Each function as it is declared, and where the library has it.
+        #[cfg(test)]
+        const FUNCTIONS: &[(&str, *const ())] = &[$((
+            concat!(stringify!($name), "(" $(, stringify!($parameter), ": ", stringify!($type), ", ")*, ")" $(, " -> ", stringify!($answer))?),
+            $name as *const (),
+        )),*];
     };
 }
 
-extern "C" {
-    pub fn card_lay(img: *mut u8, img_len: usize, b: u64, guid: Guid) -> Answer;
-    pub fn card_check(img: *const u8, img_len: usize, b: u64) -> Answer;
-    pub fn card_put(img: *mut u8, img_len: usize, b: u64, slot: u32, partition: Partition) -> Answer;
-    pub fn card_clear(img: *mut u8, img_len: usize, b: u64, slot: u32) -> Answer;
-    pub fn card_write_payload(img: *mut u8, img_len: usize, b: u64, slot: u32, place: usize, bytes: *const u8, bytes_len: usize) -> Stored;
-    pub fn card_read_slot(img: *const u8, img_len: usize, b: u64, slot: u32) -> SlotRead;
-    pub fn card_list(img: *const u8, img_len: usize, b: u64, out: *mut u8, out_len: usize) -> Count;
+// C's bool is a byte here, so that no value of it could be undefined: 0 or 1.
+const _: () = assert!(size_of::<bool>() == size_of::<u8>());
+const _: () = assert!(size_of::<usize>() == 8, "libcard is for x86-64");
+
+structs! {
+    gpt_guid 16 { 0 time_low: u32, 4 time_mid: u16, 6 time_high: u16, 8 tail: [u8; 8] }
+    gpt_partition 128 { 0 part_type_guid: gpt_guid, 16 part_guid: gpt_guid, 32 first_lba: u64, 40 last_lba: u64, 48 flags: u64, 56 name: [u16; 36] }
+    gpt_revision 4 { 0 major: u16, 2 minor: u16 }
+    gpt_header 88 {
+        0 revision: gpt_revision, 4 header_size_le: u32, 8 crc32: u32, 12 reserved: u32, 16 current_lba: u64, 24 backup_lba: u64,
+        32 first_usable: u64, 40 last_usable: u64, 48 disk_guid: gpt_guid, 64 part_start: u64, 72 num_parts: u32, 76 part_size: u32, 80 crc32_parts: u32
+    }
+    gpt_part_record 16 {
+        0 boot_indicator: u8, 1 start_head: u8, 2 start_sector: u8, 3 start_track: u8, 4 os_type: u8, 5 end_head: u8, 6 end_sector: u8,
+        7 end_track: u8, 8 lb_start: u32, 12 lb_size: u32
+    }
+    gpt_mbr 512 { 0 bootcode: [u8; 440], 440 disk_signature: [u8; 4], 444 unknown: u16, 448 partitions: [gpt_part_record; 4] }
+    gpt_settings 56 {
+        0 disk_guid: gpt_guid, 16 backup_lba: u64, 24 first_usable: u64, 32 last_usable: u64, 40 num_parts: u32, 44 part_size: u32, 48 primary: u8
+    }
+    card_answer 8 { 0 number: u32, 4 slot: u32 }
+    gpt_stored 16 { 0 number: u32, 8 bytes: u64 }
+    gpt_count 8 { 0 number: u32, 4 count: u32 }
+    gpt_next 8 { 0 number: u32, 4 slot: u32 }
+    gpt_slot_read 136 { 0 number: u32, 4 present: u8, 8 partition: gpt_partition }
+    card_used_read 144 { 0 number: u32, 4 found: u8, 8 slot: u32, 16 partition: gpt_partition }
+    card_row 136 { 0 slot: u64, 8 partition: gpt_partition }
+    gpt_header_read 96 { 0 number: u32, 8 header: gpt_header }
+    gpt_block 16 { 0 number: u32, 8 lba: u64 }
+    gpt_sum 8 { 0 number: u32, 4 sum: u32 }
+    gpt_header_written 104 { 0 number: u32, 8 bytes: u64, 16 header: gpt_header }
+    gpt_entry_read 136 { 0 number: u32, 8 partition: gpt_partition }
+    gpt_length 16 { 0 number: u32, 8 length: u64 }
+    gpt_place 16 { 0 number: u32, 8 place: u64 }
+    gpt_mbr_read 516 { 0 number: u32, 4 mbr: gpt_mbr }
+    gpt_record_read 20 { 0 number: u32, 4 part_record: gpt_part_record }
+    gpt_record_bytes 16 { 0 bytes: [u8; 16] }
+    gpt_record_set 532 { 0 number: u32, 4 old: gpt_part_record, 20 mbr: gpt_mbr }
+    gpt_bootcode_read 444 { 0 number: u32, 4 bootcode: [u8; 440] }
+    gpt_bootcode 440 { 0 bytes: [u8; 440] }
+    gpt_signature_read 8 { 0 number: u32, 4 disk_signature: [u8; 4] }
+    gpt_signature 4 { 0 bytes: [u8; 4] }
+}
+
+functions! {
+    fn card_lay(img: *mut u8, img_len: usize, b: u64, guid: gpt_guid) -> card_answer;
+    fn card_check(img: *const u8, img_len: usize, b: u64) -> card_answer;
+    fn card_put(img: *mut u8, img_len: usize, b: u64, slot: u32, partition: gpt_partition) -> card_answer;
+    fn card_clear(img: *mut u8, img_len: usize, b: u64, slot: u32) -> card_answer;
+    fn card_write_payload(img: *mut u8, img_len: usize, b: u64, slot: u32, place: usize, bytes: *const u8, bytes_len: usize) -> gpt_stored;
+    fn card_count_used(img: *const u8, img_len: usize, b: u64) -> gpt_count;
+    fn card_next_used(img: *const u8, img_len: usize, b: u64, after: u32) -> gpt_next;
+    fn card_read_slot(img: *const u8, img_len: usize, b: u64, slot: u32) -> gpt_slot_read;
+    fn card_nth_used(img: *const u8, img_len: usize, b: u64, k: u32) -> card_used_read;
+    fn card_list(img: *const u8, img_len: usize, b: u64, out: *mut u8, out_len: usize) -> gpt_count;
+    fn gpt_crc32(bytes: *const u8, bytes_len: usize) -> u32;
+    fn gpt_read_primary_header(img: *const u8, img_len: usize, b: u64) -> gpt_header_read;
+    fn gpt_read_backup_header(img: *const u8, img_len: usize, b: u64) -> gpt_header_read;
+    fn gpt_find_backup_lba(len: usize, b: u64) -> gpt_block;
+    fn gpt_partentry_checksum(img: *const u8, img_len: usize, header: gpt_header, b: u64) -> gpt_sum;
+    fn gpt_write_primary(img: *mut u8, img_len: usize, header: gpt_header, b: u64) -> gpt_header_written;
+    fn gpt_write_backup(img: *mut u8, img_len: usize, header: gpt_header, b: u64) -> gpt_header_written;
+    fn gpt_settings_new(guid: gpt_guid) -> gpt_settings;
+    fn gpt_build(settings: gpt_settings, b: u64) -> gpt_header_read;
+    fn gpt_build_from_header(header: gpt_header, b: u64) -> gpt_header_read;
+    fn gpt_entry_from_bytes(bytes: *const u8, bytes_len: usize) -> gpt_entry_read;
+    fn gpt_entry_to_bytes(out: *mut u8, out_len: usize, partition: gpt_partition);
+    fn gpt_is_used(partition: gpt_partition) -> u8;
+    fn gpt_sectors_len(partition: gpt_partition) -> gpt_length;
+    fn gpt_bytes_len(partition: gpt_partition, b: u64) -> gpt_length;
+    fn gpt_bytes_start(partition: gpt_partition, b: u64) -> gpt_place;
+    fn gpt_write_entry(img: *mut u8, img_len: usize, partition: gpt_partition, index: u64, start_lba: u64, b: u64, entry_size: u32) -> gpt_stored;
+    fn gpt_write_zero_entries(img: *mut u8, img_len: usize, index: u64, count: u64, start_lba: u64, b: u64, entry_size: u32) -> gpt_stored;
+    fn gpt_read_partition(img: *const u8, img_len: usize, header: gpt_header, b: u64, slot: u32) -> gpt_slot_read;
+    fn gpt_count_partitions(img: *const u8, img_len: usize, header: gpt_header, b: u64) -> gpt_count;
+    fn gpt_next_partition(img: *const u8, img_len: usize, header: gpt_header, b: u64, after: u32) -> gpt_next;
+    fn gpt_mbr_new(lb_size: u32) -> gpt_mbr;
+    fn gpt_mbr_protective_record(lb_size: u32) -> gpt_part_record;
+    fn gpt_mbr_from_bytes(buf: *const u8, buf_len: usize, b: u64) -> gpt_mbr_read;
+    fn gpt_mbr_from_image(img: *const u8, img_len: usize, b: u64) -> gpt_mbr_read;
+    fn gpt_mbr_record_from_bytes(buf: *const u8, buf_len: usize) -> gpt_record_read;
+    fn gpt_mbr_record_to_bytes(part_record: gpt_part_record) -> gpt_record_bytes;
+    fn gpt_mbr_record(mbr: gpt_mbr, place: usize) -> gpt_record_read;
+    fn gpt_mbr_set_record(mbr: gpt_mbr, place: usize, part_record: gpt_part_record) -> gpt_record_set;
+    fn gpt_mbr_overwrite(img: *mut u8, img_len: usize, mbr: gpt_mbr) -> gpt_stored;
+    fn gpt_mbr_update_conservative(img: *mut u8, img_len: usize, mbr: gpt_mbr) -> gpt_stored;
+    fn gpt_mbr_read_bootcode(img: *const u8, img_len: usize) -> gpt_bootcode_read;
+    fn gpt_mbr_write_bootcode(img: *mut u8, img_len: usize, bootcode: gpt_bootcode) -> gpt_stored;
+    fn gpt_mbr_read_disk_signature(img: *const u8, img_len: usize) -> gpt_signature_read;
+    fn gpt_mbr_write_disk_signature(img: *mut u8, img_len: usize, signature: gpt_signature) -> gpt_stored;
+}
+
+impl card_row {
+    /// A row of zeros, to lend to `card_list`.
+    pub const ZERO: card_row = {
+        let nil = gpt_guid { time_low: 0, time_mid: 0, time_high: 0, tail: [0; 8] };
+        card_row { slot: 0, partition: gpt_partition { part_type_guid: nil, part_guid: nil, first_lba: 0, last_lba: 0, flags: 0, name: [0; 36] } }
+    };
 }
 
 #[cfg(test)]
 mod tests {
     use super::*;
 
-    /// Each line of the header that asserts a layout of these structs asserts the same as this module, and none is left out.
-    #[test]
-    fn layouts_are_those_of_the_header() {
-        let header = include_str!("../../../include/card.h");
-        let all = [Guid::LAYOUT, Partition::LAYOUT, Answer::LAYOUT, Stored::LAYOUT, Count::LAYOUT, SlotRead::LAYOUT, Row::LAYOUT];
-        for (name, size, fields) in all {
-            let stated: Vec<&str> = header.lines().filter(|line| line.starts_with(&format!("CARD_AT({name}, "))).collect();
-            let here: Vec<String> = fields.iter().map(|(field, place)| format!("CARD_AT({name}, {field}, {place});")).collect();
-            assert_eq!(stated, here);
-            assert!(header.lines().any(|line| line == format!("CARD_SIZE({name}, {size});")), "the size of {name}");
+    /// What this module declares, as lines: a struct's size, a field's place and type, a function.
+    fn declared() -> Vec<String> {
+        let mut lines: Vec<String> = FUNCTIONS.iter().map(|(function, _)| function.to_string()).collect();
+        for (name, size, fields) in STRUCTS {
+            lines.push(format!("{name} has {size} bytes"));
+            for (place, field, kind) in *fields {
+                lines.push(format!("{name}.{field} is at {place}"));
+                lines.push(format!("{name}.{field}: {kind}"));
+            }
         }
+        lines
+    }
+
+    /// A declaration of C, as `uint8_t tail[8]`, in Rust's words.
+    fn in_rust(declaration: &str) -> String {
+        let (kind, name) = declaration.split_at(declaration.rfind([' ', '*']).unwrap() + 1);
+        let kind = match kind.trim_end() {
+            "uint8_t" | "bool" => "u8",
+            "uint16_t" => "u16",
+            "uint32_t" => "u32",
+            "uint64_t" => "u64",
+            "size_t" => "usize",
+            "uint8_t *" => "*mut u8",
+            "const uint8_t *" => "*const u8",
+            of_the_header => of_the_header,
+        };
+        match name.split_once('[') {
+            Some((name, count)) => format!("{name}: [{kind}; {count}"),
+            None => format!("{name}: {kind}"),
+        }
+    }
+
+    /// A function's line of C in Rust's words.
+    fn function_in_rust(line: &str) -> String {
+        let (answer, parameters) = line.strip_suffix(");").and_then(|line| line.split_once('(')).expect(line);
+        let parameters: String = parameters.split(", ").map(|parameter| in_rust(parameter) + ", ").collect();
+        match in_rust(answer).split_once(": ").unwrap() {
+            (name, "void") => format!("{name}({parameters})"),
+            (name, answer) => format!("{name}({parameters}) -> {answer}"),
+        }
+    }
+
+    /// What the header declares and asserts, in the same form. Its declarations begin at a line's first letter, a struct's fields behind four spaces.
+    fn stated() -> Vec<String> {
+        let mut lines = Vec::new();
+        let mut of = "";
+        for line in include_str!("../../../include/card.h").lines() {
+            let inside = |from: &str, to: &str| line.strip_prefix(from).and_then(|rest| rest.strip_suffix(to));
+            if let Some(name) = inside("typedef struct ", " {") {
+                of = name;
+            } else if line.starts_with('}') {
+                of = "";
+            } else if let Some(field) = line.strip_prefix("    ").filter(|_| !of.is_empty()) {
+                lines.push(format!("{of}.{}", in_rust(field.split_once(';').unwrap().0)));
+            } else if let Some(size) = inside("CARD_SIZE(", ");") {
+                let (name, size) = size.split_once(", ").unwrap();
+                lines.push(format!("{name} has {size} bytes"));
+            } else if let Some(place) = inside("CARD_AT(", ");") {
+                let (field, place) = place.rsplit_once(", ").unwrap();
+                lines.push(format!("{} is at {place}", field.replace(", ", ".")));
+            } else if line.starts_with(|c: char| c.is_ascii_alphabetic()) && !line.starts_with("enum ") && !line.starts_with("extern ") {
+                lines.push(function_in_rust(line));
+            }
+        }
+        lines
+    }
+
+    /// Neither this module nor the header has a struct, a field, a number, a type or a function that the other has not.
+    #[test]
+    fn declarations_are_those_of_the_header() {
+        let (here, header) = (declared(), stated());
+        let only = |these: &[String], those: &[String]| these.iter().filter(|line| !those.contains(line)).cloned().collect::<Vec<_>>();
+        assert_eq!((only(&here, &header), only(&header, &here)), (vec![], vec![]), "only here, and only in include/card.h");
+        assert_eq!(here.len(), header.len());
+    }
+
+    /// The test's program links only if the library has each of them.
+    #[test]
+    fn functions_are_in_the_library() {
+        assert!(FUNCTIONS.iter().all(|(_, place)| !place.is_null()));
     }
 }

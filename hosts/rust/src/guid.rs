@@ -35,12 +35,12 @@ impl Guid {
         (u32::from_le_bytes([a0, a1, a2, a3]), u16::from_le_bytes([b0, b1]), u16::from_le_bytes([c0, c1]), tail)
     }
 
-    pub(crate) fn to_c(self) -> ffi::Guid {
+    pub(crate) fn to_c(self) -> ffi::gpt_guid {
         let (time_low, time_mid, time_high, tail) = self.to_fields();
-        ffi::Guid { time_low, time_mid, time_high, tail }
+        ffi::gpt_guid { time_low, time_mid, time_high, tail }
     }
 
-    pub(crate) fn from_c(guid: ffi::Guid) -> Guid {
+    pub(crate) fn from_c(guid: ffi::gpt_guid) -> Guid {
         Guid::from_fields(guid.time_low, guid.time_mid, guid.time_high, guid.tail)
     }
 }

@@ -20,14 +20,15 @@
 //! ```
 //!
 //! Every call takes every image and every number. It ends, and accepts or gives a [`Refusal`]; a refused call changes no byte of the image.
-//! That is proved of the library; that this crate hands the bytes over rightly is not proved, but tested.
+//! That is proved of the library; that this crate hands the bytes over rightly is not proved, but tested. The ported calls on headers, entries and the MBR are
+//! in [`ffi`], as C has them.
 //!
 //! A program takes the crate by its path, `card = { path = "../dirozhal/hosts/rust" }`, and needs no registry. The crate links `libcard.a`, which `make lib`
 //! writes, from the folder that the environment names in `CARD_LIB_DIR`, or else from the repository's `target/lib`.
 #![deny(missing_docs, clippy::undocumented_unsafe_blocks)]
 
 mod calls;
-mod ffi;
+pub mod ffi;
 mod guid;
 mod record;
 mod refusal;

@@ -140,8 +140,8 @@ impl Record {
         Ok(Record { type_guid, guid, first, last, flags: 0, name: Name::new(name)? })
     }
 
-    pub(crate) fn to_c(self) -> ffi::Partition {
-        ffi::Partition {
+    pub(crate) fn to_c(self) -> ffi::gpt_partition {
+        ffi::gpt_partition {
             part_type_guid: self.type_guid.to_c(),
             part_guid: self.guid.to_c(),
             first_lba: self.first,
@@ -151,7 +151,7 @@ impl Record {
         }
     }
 
-    pub(crate) fn from_c(partition: ffi::Partition) -> Record {
+    pub(crate) fn from_c(partition: ffi::gpt_partition) -> Record {
         Record {
             type_guid: Guid::from_c(partition.part_type_guid),
             guid: Guid::from_c(partition.part_guid),
