@@ -1,5 +1,5 @@
 /* The card table for C, C++ and whatever else calls C: the card calls (card_..) and the ported calls on GPT headers, entries and the
-   protective MBR (gpt_..). The library is target/staticlib/libcard_c.a, which `rt staticlib card_c` writes; it is for x86-64.
+   protective MBR (gpt_..). The library is libcard.a or libcard.so, which `make lib` writes to target/lib; it is for x86-64.
 
    Every call takes every number and every image of bytes: it ends, and it accepts or refuses by a number from the table below. A refused
    call changes no byte that was lent to it, and every other field of its answer is zero.
