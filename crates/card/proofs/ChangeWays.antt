@@ -12,12 +12,16 @@ use lib.ListN.{length}
 use lib.Seq.{sets, length-sets}
 use Rattle.units.specs.declared.Guid.{Guid}
 use Rattle.units.specs.Answer.{Why, Answer, accepted, refused, pick, gives, Ends, ends}
-use Rattle.units.specs.Bytes.{part, num, allZero}
+use Rattle.units.specs.Bytes.{part, le, num, bytes, allZero}
 use Rattle.units.specs.Guids.{guidAt, guidBytes}
 use Rattle.units.specs.Held.{Small}
-use Rattle.units.proofs.Lists.{length-part, part-out, part-same, sets-comm, sets-all}
+use Rattle.units.proofs.Lists.{part-part, sets-comm, sets-all}
+use Rattle.units.proofs.Laws.{small-part, length-bytes, le-bytes}
 use Rattle.units.proofs.GuidLaws.{guid-bytes-back}
 use Rattle.crc32.specs.Crc.{crc}
+use Rattle.crc32.specs.Register.{crc-fits}
+use Rattle.slot_sum.specs.SlotSum.{sumAfter}
+use Rattle.slot_sum.proofs.Laws.{sum-stored}
 use Rattle.partition.specs.declared.Partition.{Partition}
 use Rattle.partition.specs.Format.{entryBytes, named}
 use Rattle.partition.proofs.Laws.{length-entry, length-cleared}
@@ -25,7 +29,7 @@ use Rattle.tables.specs.Checks.{when, orElse, lowest}
 use Rattle.tables.specs.Places.{firstUsable, lastUsable, backArray, backHeader}
 use Rattle.tables.specs.Lens.{Tables, tablesAt, tables, withTables}
 use Rattle.tables.specs.Entries.{zeros, entry, setEntry, used, firstOf, lastOf, clash}
-use Rattle.tables.specs.Headers.{Side, Front, Back, copyOf, headBlock}
+use Rattle.tables.specs.Headers.{Side, Front, Back, header, sealed, copyOf, headBlock}
 use Rattle.tables.specs.Check.{roomCheck, guidOf, check}
 use Rattle.tables.specs.Calls.{judged, settle, badSlot, meets, changed, putNumber, putSlot, putAt, putBytes, clearNumber, clearAt}
 use Rattle.tables.proofs.Room.{Room}
@@ -34,9 +38,10 @@ use Rattle.tables.proofs.Good.{room-ok, card-whole}
 use Rattle.tables.proofs.State.{judged-none, settle-accepted, accepted-good, accepted-array}
 use Rattle.tables.proofs.Orders.{split, by-test, else-first, else-second, none-when, below-lowest, at-lowest, lowest-none}
 use Rattle.tables.proofs.Changes.{slot-ok}
-use Rattle.tables.proofs.Stores.{sets-within, newHeader, change-stored}
+use Rattle.tables.proofs.Stores.{newHeader, change-stored}
 use Rattle.tables.proofs.LayWays.{head-block, settled}
-use Rattle.tables.proofs.ReadCheck.{guid-part-of}
+use Rattle.tables.proofs.ReadCheck.{head-part, guid-part-of}
+use Rattle.tables.proofs.HeaderLaws.{header-parts}
 use Rattle.tables.proofs.NumberWays.{else-here, else-on, else-most, when-most, check-most}
 
 -- ---- the number of clear
@@ -212,41 +217,53 @@ front-kept B xs h b e =
     ∙ guid-bytes-back xs (B + 56) (omega (arith, r .least, r .enough)) b
     ∙ sym (guid-part-of xs B B (omega (arith, r .least)))
 
+-- the sum that the code reads of the front header is that of the front array
+pub sum-held : (B : ℕ) (xs : List ℕ) {v : ℕ} → check B (length xs) (tables B xs) ≡ 0 → Small xs → v ≡ num xs (B + 88) 4 → v ≡ crc (tables B xs .front .array)
+unfolding num sealed tablesAt
+sum-held B xs c b e =
+    let n : ℕ = length xs in
+    let r : Room B (length xs) = room-ok B (length xs) (check-has-room B xs c) in
+    let arr : List ℕ = part xs (B + B) 16384 in
+    let k = accepted-good B (length xs) xs refl c in
+    let g : List ℕ = guidOf (tables B xs .front) in
+    e ∙ ap le (sym (part-part xs B 92 88 4 (omega arith)) ∙ ap (λ (l : List ℕ). part l 88 4) (sym (head-part xs B B (omega (arith, r .least))) ∙ k .front)
+    ∙ header-parts B n Front (bytes 4 (crc (header B n Front (zeros 4) g (bytes 4 (crc arr))))) g (bytes 4 (crc arr)) (length-bytes 4 _) (k .long) (length-bytes 4 _))
+    ∙ le-bytes 4 (crc arr) (crc-fits arr (small-part xs (B + B) 16384 b))
+
+-- the new sum, from that one and the slot's bytes
+pub sum-changed : (B : ℕ) (xs e : List ℕ) (s : ℕ) {v at after r : ℕ} → check B (length xs) (tables B xs) ≡ 0 → badSlot s ≡ false → length e ≡ 128
+    → v ≡ crc (tables B xs .front .array) → at ≡ B + B + 128 * (s - 1) → after ≡ 128 * (128 - s) → r ≡ sumAfter v (part xs at (at + 128 - at)) e after
+    → r ≡ crc (setEntry (tables B xs .front .array) (s - 1) e)
+unfolding setEntry tablesAt
+sum-changed B xs e s {v} {at} c b le q a f h =
+    let w : at + 128 - at ≡ 128 = omega arith in
+    let k = slot-ok s b in
+    let arr : List ℕ = part xs (B + B) 16384 in
+    let l : length (part xs (B + B) 16384) ≡ 16384 = accepted-array B (length xs) xs refl c in
+    let o : part xs (B + B + 128 * (s - 1)) 128 ≡ part (part xs (B + B) 16384) (128 * (s - 1)) 128 = sym (part-part xs (B + B) 16384 (128 * (s - 1)) 128 (omega arith)) in
+    let m : 128 * (128 - s) ≡ 16384 - (128 * (s - 1) + 128) = omega arith in
+    h ∙ rw (w, q, a, f, o, m) (sym (rw (le, l) at (sum-stored arr (128 * (s - 1)) e (omega arith))))
+
 -- the entry in both arrays
 pub slots-stored : (e xs : List ℕ) {m i : List ℕ} {a b k o : ℕ} → m ≡ sets xs a e → a ≡ k → i ≡ sets m b e → b ≡ o → i ≡ sets (sets xs k e) o e
 slots-stored e xs p q h r = rw (h, p, q, r)
 
--- a part that a store changed within
-part-within : (xs : List ℕ) (at n o : ℕ) (e : List ℕ) → at + n ≤ length xs → o + length e ≤ n → part (sets xs (at + o) e) at n ≡ sets (part xs at n) o e
-part-within xs at n o e h k =
-    let v : List ℕ = sets (part xs at n) o e in
-    let l : length (sets (part xs at n) o e) ≡ n = length-sets (part xs at n) o e ∙ length-part xs at n h in
-    ap (λ (l : List ℕ). part l at n) (sym (sets-within xs at n o e h k)) ∙ rw l at (part-same xs at v (omega arith))
-
 module _ (B : ℕ) (xs y i e : List ℕ) (s : ℕ) (g : Guid) (parts : ℕ) (c : check B (length xs) (tables B xs) ≡ 0) (b : badSlot s ≡ false) (le : length e ≡ 128)
     (kept : guidBytes g ≡ guidOf (tables B xs .front))
     (ey : y ≡ sets (sets xs (B + B + 128 * (s - 1)) e) (backArray B (length xs) + 128 * (s - 1)) e)
-    (ep : parts ≡ crc (part y (B + B) 16384)) where
+    (ep : parts ≡ crc (setEntry (tables B xs .front .array) (s - 1) e)) where
   room : Room B (length xs)
   room = room-ok B (length xs) (check-has-room B xs c)
 
   as-long : length y ≡ length xs
   as-long = ap length ey ∙ length-sets (sets xs (B + B + 128 * (s - 1)) e) (backArray B (length xs) + 128 * (s - 1)) e ∙ length-sets xs (B + B + 128 * (s - 1)) e
 
-  new-array : part y (B + B) 16384 ≡ setEntry (tables B xs .front .array) (s - 1) e
-  unfolding setEntry tablesAt
-  new-array =
-      let k = slot-ok s b .1 in
-      ap (λ (l : List ℕ). part l (B + B) 16384) ey
-      ∙ part-out (sets xs (B + B + 128 * (s - 1)) e) (backArray B (length xs) + 128 * (s - 1)) e (B + B) 16384 (inl (omega (arith, room .low)))
-      ∙ part-within xs (B + B) 16384 (128 * (s - 1)) e (omega (arith, room .low, room .seam, room .top)) (omega arith)
-
   new-header : (d : Side) → headBlock B (length y) d g parts ≡ newHeader B (length xs) xs s e d
   unfolding newHeader
   new-header d =
       let arr : List ℕ = setEntry (tables B xs .front .array) (s - 1) e in
       ap (λ (m : ℕ). headBlock B m d g parts) as-long
-      ∙ head-block B (length xs) d g arr (ep ∙ ap crc new-array)
+      ∙ head-block B (length xs) d g arr ep
       ∙ ap (λ (u : List ℕ). copyOf B (length xs) d u arr .header) kept
 
   front-long : length (newHeader B (length xs) xs s e Front) ≡ B

@@ -14,11 +14,12 @@ ghost use lib.Seq.{sets};
 ghost use Rattle.units.specs.Bytes.{part};
 ghost use Rattle.units.specs.Guids.{guidBytes};
 ghost use Rattle.units.specs.Meanings.{verdictMeans};
+ghost use Rattle.crc32.specs.Crc.{crc};
 ghost use Rattle.crc32.specs.Rows.{Rows};
 ghost use Rattle.tables.specs.Checks.{when, orElse};
 ghost use Rattle.tables.specs.Places.{firstUsable, lastUsable, backArray};
 ghost use Rattle.tables.specs.Lens.{tables, withTables};
-ghost use Rattle.tables.specs.Entries.{used, firstOf, lastOf};
+ghost use Rattle.tables.specs.Entries.{setEntry, used, firstOf, lastOf};
 ghost use Rattle.tables.specs.Check.{roomCheck, guidOf, check};
 ghost use Rattle.tables.specs.Calls.{judged, badSlot, meets, changed, clearNumber, putNumber, putSlot, putBytes};
 
@@ -151,15 +152,30 @@ fn put_slots(img: &mut [u8], b: u64, slot: Slot, e: &[u8])
     units::inner::put_bytes(img, back.0, e);
 }
 
-// The whole change, on a card that the check accepts: the sum is taken once, over the front array.
-pub fn change(t: &[u32; 4096], img: &mut [u8], b: u64, slot: Slot, e: &[u8])
+// The front array's sum once a slot has other bytes, from the sum in the front header, which the check has just confirmed.
+fn sum_with<'a>(t: &'a [u32; 4096], img: &'a [u8], b: u64, slot: Slot, e: &'a [u8]) -> u32
+    requires { ⌜ Rows 16 (now t) ⌝ }
+    requires { ⌜ check b (length (now img)) (tables b (now img)) ≡ 0 ⌝ }
+    requires { ⌜ (badSlot (slot .0) ≡ false) × (length (now e) ≡ 128) ⌝ }
+    ensures { λ r. ⌜ r ≡ crc (setEntry (tables b (now (img .entry)) .front .array) (slot .0 - 1) (now (e .entry))) ⌝ }
+{
+    let header = tables::inner::header_place(img.len(), b, false);
+    let sum = units::inner::u32_at(img, header.0 + 88);
+    let place = tables::inner::slot_place(img.len(), b, false, slot);
+    let at = place.0;
+    let after = 128 * (128 - slot.0 as usize);
+    slot_sum::inner::sum_after(t, sum, &img[at..at + 128], e, after)
+}
+
+// The whole change, on a card that the check accepts: the new sum comes from the old one and the slot's bytes, before these are stored.
+pub fn change<'a>(t: &'a [u32; 4096], img: &mut [u8], b: u64, slot: Slot, e: &'a [u8])
     requires { ⌜ Rows 16 (now t) ⌝ }
     requires { ⌜ check b (length (now img)) (tables b (now img)) ≡ 0 ⌝ }
     requires { ⌜ (badSlot (slot .0) ≡ false) × (length (now e) ≡ 128) ⌝ }
     ensures { λ _. ⌜ now (img .exit) ≡ withTables b (now (img .entry)) (changed b (length (now (img .entry))) (tables b (now (img .entry))) (slot .0) (now (e .entry))) ⌝ }
 {
     let guid = kept_guid(img, b);
+    let parts = sum_with(t, img, b, slot, e);
     put_slots(img, b, slot, e);
-    let parts = tables::inner::front_sum(t, img, b);
     tables::inner::put_header_blocks(t, img, b, guid, parts);
 }

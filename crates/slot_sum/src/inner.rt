@@ -1,0 +1,115 @@
+// The sum after one slot, over a table that the caller lends: for this product's other crates. These are no public calls: they have `requires`.
+ghost use mathlib.Core.Path.{_≡_};
+ghost use Prim.Native.Nat.{ℕ, _*_, _%_, _^_, _<_};
+ghost use Rattle.crc32.specs.Crc.{step, steps};
+ghost use Rattle.crc32.specs.Rows.{Rows};
+ghost use Rattle.slot_sum.specs.SlotSum.{sumAfter};
+ghost use Rattle.slot_sum.specs.Powers.{Powers};
+
+// The register 0x80000000 after 1, 2, 4 .. bytes of zero: a register of such a form carries any other one over as many bytes.
+const POWERS: [u32; 20] = [
+    0x00800000,
+    0x00008000,
+    0xedb88320,
+    0xb1e6b092,
+    0xa06a2517,
+    0xed627dae,
+    0x88d14467,
+    0xd7bbfe6a,
+    0xec447f11,
+    0x8e7ea170,
+    0x6427800e,
+    0x4d47bae0,
+    0x09fe548f,
+    0x83852d0f,
+    0x30362f1a,
+    0x7b5a9cc3,
+    0x31fec169,
+    0x9fec022a,
+    0x6c8dedc4,
+    0x15d6874d,
+];
+
+// The constants, with their rule.
+fn powers() -> [u32; 20]
+    ensures { λ r. ⌜ Powers 20 r ⌝ }
+{
+    POWERS
+}
+
+// One bit of zero.
+fn one_bit(r: u32) -> u32
+    ensures { λ x. ⌜ x ≡ step r ⌝ }
+{
+    (r % 2 * 0xedb88320) ^ (r / 2)
+}
+
+// The register r, or 0, by the lowest bit of a.
+fn lowest_times(a: u32, r: u32) -> u32
+    ensures { λ x. ⌜ x ≡ a % 2 * r ⌝ }
+{
+    if a % 2 == 1 {
+        return r;
+    }
+    0
+}
+
+// The register r, as far on as a is from 0x80000000: the two are multiplied as polynomials, bit by bit.
+fn carried(a: u32, r: u32) -> u32
+    ensures { λ x. ⌜ ((n : ℕ) → a ≡ steps n 0x80000000 → x ≡ steps n r) ⌝ }
+{
+    let mut x = 0;
+    let mut rest = a;
+    let mut bits = 0u32;
+    while bits < 32 {
+        x = one_bit(x) ^ lowest_times(rest, r);
+        rest = rest / 2;
+        bits += 1;
+    }
+    x
+}
+
+// The register x after 2 ^ k bytes of zero, if what is left is odd.
+fn past_one(p: &[u32; 20], x: u32, left: usize, k: usize) -> u32
+    requires { ⌜ Powers 20 (now p) × (k < 20) ⌝ }
+    ensures { λ r. ⌜ r ≡ steps (8 * (left % 2 * 2 ^ k)) x ⌝ }
+{
+    if left % 2 == 1 {
+        return carried(p[k], x);
+    }
+    x
+}
+
+// The register r after so many bytes of zero, which are halved at each step.
+fn past_zeros(r: u32, bytes: usize) -> u32
+    requires { ⌜ bytes < 2 ^ 20 ⌝ }
+    ensures { λ x. ⌜ x ≡ steps (8 * bytes) r ⌝ }
+{
+    let p = powers();
+    let mut x = r;
+    let mut left = bytes;
+    let mut k = 0;
+    while left > 0 {
+        x = past_one(&p, x, left, k);
+        left = left / 2;
+        k += 1;
+    }
+    x
+}
+
+// The sum of a list of bytes in which `old` became `new`, so many bytes before its end, from its sum before that.
+pub fn sum_after<'a>(
+    t: &'a [u32; 4096],
+    sum: u32,
+    old: &'a [u8],
+    new: &'a [u8],
+    after: usize,
+) -> u32
+    requires { ⌜ Rows 16 (now t) ⌝ }
+    requires { ⌜ after < 2 ^ 20 ⌝ }
+    ensures { λ r. ⌜ r ≡ sumAfter sum (now (old .entry)) (now (new .entry)) after ⌝ }
+{
+    let before = crc32::inner::sum(t, old);
+    let behind = crc32::inner::sum(t, new);
+    sum ^ past_zeros(before ^ behind, after)
+}
