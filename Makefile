@@ -58,7 +58,7 @@ install: lib
 install-test:
 	tests/install/run.sh
 
-# Measures the check sum beside a plain byte table and zlib, and the card calls, in one run each.
+# Measures the check sum beside a plain byte table and zlib, the card calls, and both beside the Rust original (bench/beside), in one run each.
 bench: lib
 	@echo '#include <zlib.h>' | cc -E - >/dev/null 2>&1 || { echo "bench: zlib's header is missing; on Debian: apt-get install zlib1g-dev"; exit 1; }
 	rt staticlib crc32_c
@@ -66,6 +66,7 @@ bench: lib
 	cc -O2 -Iinclude -o target/bench-card bench/card.c target/lib/libcard.a target/staticlib/libcrc32_c.a -lpthread
 	target/bench-crc
 	target/bench-card
+	bench/beside/run.sh
 
 # Calls every function of include/card.h from C (tests/c).
 boundary: lib
