@@ -5,10 +5,10 @@ use mathlib.Core.Logic.{_⊎_, inl, inr, ⊎-elim}
 use mathlib.Core.Bool.{Bool, true, false, not}
 use mathlib.Core.List.{List, [], _∷_, _++_, map, append-assoc}
 use Prim.Native.Nat.{ℕ, zero, suc, _+_, _*_, _-_, _^_, _≤_, _<_}
-use native.Mathlib.Nat.{add-zero, sub-zero}
+use native.Mathlib.Nat.{add-zero}
 use native.Mathlib.Omega.{arith}
 use lib.Dec.{eqb}
-use lib.ListN.{length, length-map, drop, getD, set, length-append, drop-of-length-le}
+use lib.ListN.{length, length-map, drop, getD, length-append, drop-of-length-le}
 use lib.Seq.{drop-cons, sets, length-sets, take-at, drop-at, getD-drop}
 use borrow.Author.Needs.{length-unmapped}
 use borrow.Author.Tests.{eq-eqb, le-leb, lt-leb, leb-true, not-false}
@@ -20,7 +20,7 @@ use Rattle.units.specs.Answer.{Answer, accepted, refused, numberOf, refuse, pic
 use Rattle.units.specs.Bytes.{part, num, bytes, same}
 use Rattle.units.specs.Places.{goodSize, inside}
 use Rattle.units.specs.Held.{Small}
-use Rattle.units.proofs.Lists.{part-join, length-part, part-part, part-split, part-step, part-in, part-same, part-out, sets-then, sets-all, drop-next, drop-sets}
+use Rattle.units.proofs.Lists.{part-join, length-part, part-part, part-split, part-in, part-same, part-out, sets-then, drop-next, drop-sets}
 use Rattle.units.proofs.Laws.{size-range, length-bytes, field-here, num-part, num-out, num-drop, bytes-num, same-refl}
 use Rattle.units.proofs.GuidLaws.{tail-part}
 use Rattle.mbr.proofs.PartRecord.{the-type as record-type, the-field as record-field}
@@ -30,18 +30,6 @@ use Rattle.mbr.specs.declared.ProtectiveMbr.{ProtectiveMbr}
 use Rattle.mbr.specs.Format.{recordAt, recordBytes, recordsBytes, signature, tailBytes, mbrAt, mbrBytes, zeroRecord}
 use Rattle.mbr.specs.Parsing.{mbrParsed, imageParsed, bytesRead}
 use Rattle.mbr.specs.Storing.{bytesStored, wholeStored, tailStored}
-
--- ---- a part of a list copied to the front of another
-
-pub copy-first : (o s : List ℕ) (at : ℕ) → at + length o ≤ length s → sets o 0 (part s (at + 0) (length o - 0)) ≡ part s at (length o)
-copy-first o s at h =
-    simp (add-zero, sub-zero) (sets-all o (part s at (length o)) (sym (length-part s at (length o) h)))
-
-pub copy-step : (o s : List ℕ) (at i n : ℕ) → i < n → at + n ≤ length s
-    → sets (set o i (getD s (at + i) 0)) (i + 1) (part s (at + (i + 1)) (n - (i + 1))) ≡ sets o i (part s (at + i) (n - i))
-copy-step o s at i n h k =
-    let b : i + 1 ≡ suc i = omega arith in
-    rw (part-step s at i n h k, b)
 
 -- ---- records one after the other
 

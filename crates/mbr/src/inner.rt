@@ -56,18 +56,6 @@ pub fn put_record(s: &mut [u8], at: usize, p: PartRecord)
     units::inner::put_num(s, at + 12, 4, p.lb_size as u64);
 }
 
-// The bytes of s from place at on, as many as out has.
-pub fn copy_out(out: &mut [u8], s: &[u8], at: usize)
-    requires { ⌜ at + length (now out) ≤ length (now s) ⌝ }
-    ensures { λ _. ⌜ now (out .exit) ≡ part (now (s .entry)) at (length (now (out .entry))) ⌝ }
-{
-    let mut i = 0;
-    while i < out.len() {
-        out[i] = s[at + i];
-        i += 1;
-    }
-}
-
 // All of src, stored at place at: 2.
 pub fn store_bytes(s: &mut [u8], at: usize, src: &[u8]) -> Stored
     ensures { λ r. ⌜ Ends (bytesStored (now (s .entry)) at (now (src .entry))) (storedMeans r) (now (s .exit)) ⌝ }
@@ -107,9 +95,9 @@ pub fn mbr_at(s: &[u8], at: usize) -> ProtectiveMbr
     ensures { λ r. ⌜ r ≡ mbrAt (now (s .entry)) at ⌝ }
 {
     let mut bootcode = [0; 440];
-    copy_out(&mut bootcode, s, at);
+    units::inner::copy_out(&mut bootcode, s, at);
     let mut disk_signature = [0; 4];
-    copy_out(&mut disk_signature, s, at + 440);
+    units::inner::copy_out(&mut disk_signature, s, at + 440);
     let unknown = units::inner::u16_at(s, at + 444);
     let partitions = [
         record_at(s, at + 446),

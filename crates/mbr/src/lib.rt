@@ -292,7 +292,7 @@ pub fn read_bootcode(img: &[u8]) -> BootcodeRead
             bootcode,
         };
     }
-    inner::copy_out(&mut bootcode, img, 0);
+    units::inner::copy_out(&mut bootcode, img, 0);
     BootcodeRead {
         verdict: Verdict::Accepted,
         bootcode,
@@ -317,7 +317,7 @@ pub fn read_disk_signature(img: &[u8]) -> SignatureRead
             disk_signature,
         };
     }
-    inner::copy_out(&mut disk_signature, img, 440);
+    units::inner::copy_out(&mut disk_signature, img, 440);
     SignatureRead {
         verdict: Verdict::Accepted,
         disk_signature,

@@ -23,7 +23,7 @@ use Rattle.units.specs.Answer.{pick}
 use Rattle.units.specs.Bytes.{part, le, num, bytes, allZero}
 use Rattle.units.specs.Guids.{guidAt, guidBytes}
 use Rattle.units.specs.Held.{Small}
-use Rattle.units.proofs.Lists.{part-join, length-part, part-step, part-split, sets-then, drop-sets, drop-next}
+use Rattle.units.proofs.Lists.{part-join, length-part, part-split, sets-then, drop-sets, drop-next}
 use Rattle.units.proofs.Laws.{length-bytes, num-part, num-drop, num-here, field-here, bytes-num, and-both}
 use Rattle.units.proofs.GuidLaws.{fit-guid-of, guid-held-of, length-guid, guid-drop, guid-here, guid-part, guid-bytes-back}
 use Rattle.partition.specs.declared.Partition.{Partition}
@@ -174,16 +174,6 @@ fit-none s vs at i h = rw (drop-of-length-le vs h)
 pub fitted-same : (n : ℕ) (xs : List ℕ) → length xs ≡ n → fitted n xs ≡ xs
 unfolding fitted
 fitted-same n xs e = take-at xs (replicate n 0) n e
-
--- a byte of a part that is copied, and what is left of the part
-pub copied-more : (l xs : List ℕ) (at i n : ℕ) → i < n → at + n ≤ length xs
-    → sets (set l i (getD xs (at + i) 0)) (i + 1) (part xs (at + (i + 1)) (n - (i + 1))) ≡ sets l i (part xs (at + i) (n - i))
-copied-more l xs at i n h k =
-    let b : i + 1 ≡ suc i = omega arith in
-    let c : sets (set l i (getD xs (at + i) 0)) (i + 1) (part xs (at + (i + 1)) (n - (i + 1)))
-    ≡ sets (set l i (getD xs (at + i) 0)) (suc i) (part xs (at + (i + 1)) (n - (i + 1)))
-    = ap (λ (j : ℕ). sets (set l i (getD xs (at + i) 0)) j (part xs (at + (i + 1)) (n - (i + 1)))) b in
-    c ∙ sym (ap (sets l i) (part-step xs at i n h k))
 
 -- ---- a record that was written reads back
 

@@ -171,11 +171,7 @@ fn entry_bytes(s: &[u8], at: usize) -> [u8; 128]
     ensures { λ r. ⌜ r ≡ part (now (s .entry)) at 128 ⌝ }
 {
     let mut bytes = [0u8; 128];
-    let mut i = 0;
-    while i < 128 {
-        bytes[i] = s[at + i];
-        i += 1;
-    }
+    units::inner::copy_out(&mut bytes, s, at);
     bytes
 }
 

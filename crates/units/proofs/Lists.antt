@@ -4,7 +4,7 @@ use mathlib.Core.Path.{_≡_, refl, sym, ap, _∙_}
 use mathlib.Core.Logic.{_⊎_, inl, inr}
 use mathlib.Core.List.{List, [], _∷_, _++_, append-nil, append-assoc}
 use Prim.Native.Nat.{ℕ, zero, suc, _+_, _-_, _≤_, _<_}
-use native.Mathlib.Nat.{add-zero, zero-add, suc-add, add-suc}
+use native.Mathlib.Nat.{add-zero, zero-add, sub-zero, suc-add, add-suc}
 use native.Mathlib.Omega.{arith}
 use lib.ListN.{length, take, drop, getD, set, replicate, length-set, length-drop, take-append-drop, drop-of-length-le, List·getD-append}
 use lib.Seq.{drop-cons, set-append-left, set-set, set-comm, drop-drop, sets, sets-eq, take-at, drop-at, take-nil, take-all, take-add, take-take, take-append-le, drop-append-le, getD-take, getD-drop, getD-set-other, length-take-le, drop-set-lt, drop-set-add, take-set-le}
@@ -169,6 +169,18 @@ pub zeros-more : (s : List ℕ) (at i n : ℕ) → i < n
 zeros-more s at i n h =
     let a : n - i ≡ suc (n - (i + 1)) = omega arith in
     store-more s at i 0 (replicate (n - (i + 1)) 0) ∙ rw a
+
+-- ---- a part of a list copied to the front of another
+
+pub copy-first : (o s : List ℕ) (at : ℕ) → at + length o ≤ length s → sets o 0 (part s (at + 0) (length o - 0)) ≡ part s at (length o)
+copy-first o s at h =
+    simp (add-zero, sub-zero) (sets-all o (part s at (length o)) (sym (length-part s at (length o) h)))
+
+pub copy-step : (o s : List ℕ) (at i n : ℕ) → i < n → at + n ≤ length s
+    → sets (set o i (getD s (at + i) 0)) (i + 1) (part s (at + (i + 1)) (n - (i + 1))) ≡ sets o i (part s (at + i) (n - i))
+copy-step o s at i n h k =
+    let b : i + 1 ≡ suc i = omega arith in
+    rw (part-step s at i n h k, b)
 
 -- ---- a lent part, `&mut s[at..at + n]`: what is lent, and the whole with ys come back in its place
 

@@ -130,6 +130,18 @@ pub fn put_bytes(s: &mut [u8], at: usize, src: &[u8])
     }
 }
 
+// The bytes of s from place at on, as many as out has.
+pub fn copy_out(out: &mut [u8], s: &[u8], at: usize)
+    requires { ⌜ at + length (now out) ≤ length (now s) ⌝ }
+    ensures { λ _. ⌜ now (out .exit) ≡ part (now (s .entry)) at (length (now (out .entry))) ⌝ }
+{
+    let mut i = 0;
+    while i < out.len() {
+        out[i] = s[at + i];
+        i += 1;
+    }
+}
+
 // n zeros, stored at place at.
 pub fn put_zeros(s: &mut [u8], at: usize, n: usize)
     requires { ⌜ at + n ≤ length (now s) ⌝ }

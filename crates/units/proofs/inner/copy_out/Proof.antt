@@ -1,13 +1,13 @@
--- `mbr::inner::copy_out` meets its contract. The loop's invariant: storing the bytes that are left makes what the function promises. Assumes nothing.
+-- `units::inner::copy_out` meets its contract. The loop's invariant: storing the bytes that are left makes what the function promises. Assumes nothing.
 use mathlib.Core.Path.{_≡_, refl, _∙_}
 use Prim.Native.Nat.{_+_, _-_, _≤_}
 use native.Mathlib.Omega.{arith}
 use lib.ListN.{length, length-set}
 use lib.Seq.{sets}
 use Rattle.units.specs.Bytes.{part}
-use Rattle.mbr.proofs.Laws.{copy-first, copy-step}
-use Rattle.mbr.proofs.inner.copy_out.Statement.{statement}
-use Rattle.mbr.proofs.inner.copy_out.Tie as tie
+use Rattle.units.proofs.Lists.{copy-first, copy-step}
+use Rattle.units.proofs.inner.copy_out.Statement.{statement}
+use Rattle.units.proofs.inner.copy_out.Tie as tie
 
 abbrev Inv-loop : tie.InvT-loop
 Inv-loop out₀ s at i₀ out i =
