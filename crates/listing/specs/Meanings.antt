@@ -1,12 +1,11 @@
 -- What the answer of nth_used means: the verdict of document 01's numbers, and beside it what was found. Two answers which mean the same are the same.
 -- The other calls answer in partition's enums and struct, whose meanings are in partition/specs/Meanings. Assumes nothing.
-use mathlib.Core.Path.{_≡_, ap}
+use mathlib.Core.Path.{_≡_}
 use mathlib.Core.Bool.{Bool, true, false}
 use mathlib.Core.List.{List, [], _∷_}
 use Prim.Native.Nat.{ℕ}
 use Rattle.units.specs.Answer.{Answer, accepted, andThen, Beside, beside}
-use Rattle.units.specs.declared.Verdict.{Verdict}
-use Rattle.units.specs.Meanings.{verdictMeans, verdict-one}
+use Rattle.units.specs.Meanings.{verdictMeans, beside-one}
 use Rattle.partition.specs.declared.Partition.{Partition}
 use Rattle.partition.specs.Format.{zeroPartition}
 use Rattle.tables.specs.Listing.{Listed}
@@ -30,14 +29,6 @@ firstUsed (e ∷ l) = record { found = true; slot = e .slot; partition = e .part
 abbrev pub nthReading : Answer (List Listed) → Beside Used
 nthReading r = beside (firstUsed []) (andThen r (λ l. accepted (firstUsed l)))
 
-used-eq : {v v′ : Verdict} {t t′ : Bool} {s s′ : ℕ} {p p′ : Partition} → v ≡ v′ → t ≡ t′ → s ≡ s′ → p ≡ p′
-    → _≡_ {A = UsedRead} (record { verdict = v; found = t; slot = record { 0 = s }; partition = p }) (record { verdict = v′; found = t′; slot = record { 0 = s′ }; partition = p′ })
-used-eq a b c d = cc
-
 pub used-one : (r s : UsedRead) → usedMeans r ≡ usedMeans s → r ≡ s
 used-one r s e =
-    used-eq
-    (verdict-one (r .verdict) (s .verdict) (ap (λ (b : Beside Used). b .verdict) e))
-    (ap (λ (b : Beside Used). b .value .found) e)
-    (ap (λ (b : Beside Used). b .value .slot) e)
-    (ap (λ (b : Beside Used). b .value .partition) e)
+    beside-one (λ v x. record { verdict = v; found = x .found; slot = record { 0 = x .slot }; partition = x .partition }) (r .verdict) (s .verdict) (usedMeans r .value) (usedMeans s .value) e

@@ -4,8 +4,7 @@ use mathlib.Core.List.{List}
 use Prim.Native.Nat.{ℕ}
 use Rattle.units.specs.Answer.{Answer, accepted, Beside}
 use Rattle.units.specs.Refusals.{refusedBy, back}
-use Rattle.units.specs.Meanings.{verdictMeans, madeBy, one-meaning, verdict-one}
-use Rattle.units.specs.declared.Verdict.{Verdict}
+use Rattle.units.specs.Meanings.{verdictMeans, madeBy, one-meaning, beside-one}
 use Rattle.mbr.specs.declared.PartRecord.{PartRecord}
 use Rattle.mbr.specs.declared.ProtectiveMbr.{ProtectiveMbr}
 use Rattle.mbr.specs.declared.RecordRead.{RecordRead}
@@ -40,13 +39,6 @@ read-back («record».Refused w) = ap «record».Refused (back w)
 
 pub record-one : (r s : RecordRead) → recordMeans r ≡ recordMeans s → r ≡ s
 record-one = one-meaning recordMeans (madeBy «record».Read «record».Refused) read-back
-
--- the same for a verdict with a value beside it, in any struct that is made of the two
-beside-one : {A E : Type 0} (make : Verdict → A → E) (v w : Verdict) (x y : A) → _≡_ {A = Beside A} (record { verdict = verdictMeans v; value = x }) (record { verdict = verdictMeans w; value = y }) → make v x ≡ make w y
-beside-one make v w x y e =
-    let p : v ≡ w = verdict-one v w (ap (λ b. b .verdict) e) in
-    let q : x ≡ y = ap (λ b. b .value) e in
-    cc
 
 pub mbr-one : (r s : MbrRead) → mbrMeans r ≡ mbrMeans s → r ≡ s
 mbr-one r s e = beside-one (λ v x. record { verdict = v; mbr = x }) (r .verdict) (s .verdict) (r .mbr) (s .mbr) e

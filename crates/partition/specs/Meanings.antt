@@ -1,12 +1,10 @@
 -- What each answer of the code means in document 01's numbers and values, and that two answers which mean the same are the same. Assumes nothing.
 use mathlib.Core.Path.{_≡_, refl, ap}
-use mathlib.Core.Bool.{Bool}
 use mathlib.Core.List.{List, [], _∷_}
 use Prim.Native.Nat.{ℕ}
 use Rattle.units.specs.Answer.{Answer, accepted, Beside}
-use Rattle.units.specs.declared.Verdict.{Verdict}
 use Rattle.units.specs.Refusals.{refusedBy, back}
-use Rattle.units.specs.Meanings.{verdictMeans, verdict-one, madeBy, one-meaning}
+use Rattle.units.specs.Meanings.{verdictMeans, madeBy, one-meaning, beside-one}
 use Rattle.partition.specs.declared.Length.{Length}
 use Rattle.partition.specs.declared.Length.the-variants as length
 use Rattle.partition.specs.declared.Partition.{Partition}
@@ -43,16 +41,9 @@ length-back (length.Refused w) = ap length.Refused (back w)
 pub length-one : (r s : Length) → lengthMeans r ≡ lengthMeans s → r ≡ s
 length-one = one-meaning lengthMeans (madeBy length.Count length.Refused) length-back
 
-reading-eq : {v v′ : Verdict} {t t′ : Bool} {p p′ : Partition} → v ≡ v′ → t ≡ t′ → p ≡ p′
-    → _≡_ {A = PartitionRead} (record { verdict = v; present = t; partition = p }) (record { verdict = v′; present = t′; partition = p′ })
-reading-eq a b c = cc
-
 pub read-one : (r s : PartitionRead) → readMeans r ≡ readMeans s → r ≡ s
 read-one r s e =
-    reading-eq
-    (verdict-one (r .verdict) (s .verdict) (ap (λ (b : Beside Found). b .verdict) e))
-    (ap (λ (b : Beside Found). b .value .present) e)
-    (ap (λ (b : Beside Found). b .value .partition) e)
+    beside-one (λ v x. record { verdict = v; present = x .present; partition = x .partition }) (r .verdict) (s .verdict) (readMeans r .value) (readMeans s .value) e
 
 count-back : (r : PartitionCount) → madeBy count.Present count.Refused (countMeans r) ≡ r
 count-back (count.Present n) = refl

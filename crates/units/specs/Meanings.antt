@@ -22,7 +22,7 @@ use Rattle.units.specs.declared.GuidRead.the-variants as guid
 use Rattle.units.specs.declared.Stored.{Stored}
 use Rattle.units.specs.declared.Stored.the-variants as stored
 use Rattle.units.specs.declared.Refusal.{Refusal}
-use Rattle.units.specs.Answer.{Answer, accepted, refused}
+use Rattle.units.specs.Answer.{Answer, accepted, refused, Beside}
 use Rattle.units.specs.Refusals.{refusedBy, named, back}
 
 abbrev pub verdictMeans : Verdict → Answer Unit
@@ -73,6 +73,13 @@ verdict-back (verdict.Refused w) = ap verdict.Refused (back w)
 
 pub verdict-one : (r s : Verdict) → verdictMeans r ≡ verdictMeans s → r ≡ s
 verdict-one = one-meaning verdictMeans (madeBy (λ u. verdict.Accepted) verdict.Refused) verdict-back
+
+-- the same for a verdict with a value beside it, in any struct that is made of the two
+pub beside-one : {A E : Type 0} (make : Verdict → A → E) (v w : Verdict) (x y : A) → _≡_ {A = Beside A} (record { verdict = verdictMeans v; value = x }) (record { verdict = verdictMeans w; value = y }) → make v x ≡ make w y
+beside-one make v w x y e =
+    let p : v ≡ w = verdict-one v w (ap (λ b. b .verdict) e) in
+    let q : x ≡ y = ap (λ b. b .value) e in
+    cc
 
 placed-back : (r : Placed) → madeBy placed.At placed.Refused (placedMeans r) ≡ r
 placed-back (placed.At x) = refl
