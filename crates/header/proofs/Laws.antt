@@ -16,12 +16,12 @@ use mir.Val.{Val}
 use Rattle.units.specs.declared.Guid.{Guid}
 use Rattle.units.specs.Answer.{Why, Answer, accepted, refused, numberOf, refuse, pick, Outcome, gives}
 use Rattle.units.specs.Bytes.{part, num, bytes, total, laid, same}
-use Rattle.units.specs.Guids.{guidBytes, tailBytes}
+use Rattle.units.specs.Guids.{guidBytes}
 use Rattle.units.specs.Places.{goodSize, inside, insideOrEmpty}
-use Rattle.units.specs.Held.{Small, FitGuid}
+use Rattle.units.specs.Held.{Small, GuidHeld}
 use Rattle.units.proofs.Lists.{part-join, part-part, part-split, drop-sets}
-use Rattle.units.proofs.Laws.{size-range, by-pick, length-bytes, num-drop, le-bytes, small-part, small-eight, bytes-num, same-refl}
-use Rattle.units.proofs.GuidLaws.{guid-held-of, guid-here, guid-bytes-back}
+use Rattle.units.proofs.Laws.{size-range, by-pick, length-bytes, num-drop, le-bytes, small-part, Low, low-append, low-bytes, small-eight, bytes-num, same-refl}
+use Rattle.units.proofs.GuidLaws.{guid-held-of, low-guid, guid-here, guid-bytes-back}
 use Rattle.crc32.specs.Crc.{crc}
 use Rattle.crc32.specs.Register.{crc-fits}
 use Rattle.crc32.specs.HeaderSum.{blanked, headerSum}
@@ -80,8 +80,7 @@ pub record FitHeader (h : Header) : Type 0 where
   pub backup : h .«backup_lba» .0 < 2 ^ 64
   pub first : h .«first_usable» .0 < 2 ^ 64
   pub last : h .«last_usable» .0 < 2 ^ 64
-  pub disk : FitGuid (h .«disk_guid»)
-  pub tail : Small (tailBytes (h .«disk_guid» .tail))
+  pub disk : GuidHeld (h .«disk_guid»)
   pub start : h .«part_start» .0 < 2 ^ 64
   pub count : h .«num_parts» < 2 ^ 32
   pub each : h .«part_size» < 2 ^ 32
@@ -92,7 +91,6 @@ pub fit-header-of : (h : Header) (vs : List Val) → shadow (row the-type .own h
 fit-header-of h vs o =
     let f = o .1 .1 in
     let g = f .1 .1 .1 .1 .1 .1 .1 .1 in
-    let d = guid-held-of _ _ (g .0) in
     record {
       major = f .0 .1 .1 .0 .1;
       minor = f .0 .1 .1 .1 .0 .1;
@@ -103,34 +101,12 @@ fit-header-of h vs o =
       backup = f .1 .1 .1 .1 .1 .0 .1 .1 .0 .1;
       first = f .1 .1 .1 .1 .1 .1 .0 .1 .1 .0 .1;
       last = f .1 .1 .1 .1 .1 .1 .1 .0 .1 .1 .0 .1;
-      disk = d .fields;
-      tail = d .tail;
+      disk = guid-held-of _ _ (g .0);
       start = g .1 .0 .1 .1 .0 .1;
       count = g .1 .1 .0 .1;
       each = g .1 .1 .1 .0 .1;
       parts = g .1 .1 .1 .1 .0 .1;
     }
-
--- a list of bytes, as a record that shows which list
-record Low (xs : List ℕ) : Type 0 where
-  each : Small xs
-
-low-append : {xs ys : List ℕ} → Low xs → Low ys → Low (xs ++ ys)
-low-append {xs} {ys} p q = record { each = go xs (p .each) }
-  where
-    go : (l : List ℕ) → Small l → Small (l ++ ys)
-    go [] f k = q .each k
-    go (x ∷ l) f zero = f 0
-    go (x ∷ l) f (suc k) = go l (λ j. f (suc j)) k
-
-low-bytes : (n x : ℕ) → Low (bytes n x)
-unfolding bytes
-low-bytes n x = record { each = go n x }
-  where
-    go : (n x : ℕ) → Small (bytes n x)
-    go zero x k = omega arith
-    go (suc n) x zero = omega arith
-    go (suc n) x (suc k) = go n (x / 256) k
 
 -- every byte of a header is a byte
 pub small-header : (h : Header) → FitHeader h → Small (headerBytes h)
@@ -138,9 +114,6 @@ small-header h f = low .each
   where
     mark : Low signature
     mark = record { each = small-eight (omega arith) (omega arith) (omega arith) (omega arith) (omega arith) (omega arith) (omega arith) (omega arith) }
-
-    disk : Low (guidBytes (h .«disk_guid»))
-    disk = low-append (low-bytes 4 _) (low-append (low-bytes 2 _) (low-append (low-bytes 2 _) (record { each = f .tail })))
 
     low : Low (headerBytes h)
     low =
@@ -154,7 +127,7 @@ small-header h f = low .each
         (low-append (low-bytes 8 _)
         (low-append (low-bytes 8 _)
         (low-append (low-bytes 8 _)
-        (low-append disk
+        (low-append (low-guid (h .«disk_guid») (f .disk))
         (low-append (low-bytes 8 _)
         (low-append (low-bytes 4 _)
         (low-append (low-bytes 4 _) (low-bytes 4 _))))))))))))))
@@ -198,7 +171,7 @@ header-here h r f =
     (le-bytes 8 (h .«backup_lba» .0) (f .backup))
     (le-bytes 8 (h .«first_usable» .0) (f .first))
     (le-bytes 8 (h .«last_usable» .0) (f .last))
-    (guid-here (h .«disk_guid») r (f .disk))
+    (guid-here (h .«disk_guid») r (f .disk .fields))
     (le-bytes 8 (h .«part_start» .0) (f .start))
     (le-bytes 4 (h .«num_parts») (f .count))
     (le-bytes 4 (h .«part_size») (f .each))
@@ -296,7 +269,6 @@ fit-stored h own parts f o p =
       first = f .first;
       last = f .last;
       disk = f .disk;
-      tail = f .tail;
       start = f .start;
       count = f .count;
       each = f .each;

@@ -55,11 +55,6 @@ pub check-room : (B : ℕ) (xs : List ℕ) → checkAnswer B xs ≡ accepted tt 
 unfolding check
 check-room B xs e = else-first (roomCheck B (length xs)) _ (judged-zero tt (check B (length xs) (tables B xs)) 0 tt e)
 
--- a card that is counted has room
-pub counted-room : (B : ℕ) (xs : List ℕ) {n : ℕ} → countAnswer B xs ≡ accepted n → roomCheck B (length xs) ≡ 0
-unfolding check
-counted-room B xs {n} e = else-first (roomCheck B (length xs)) _ (judged-zero (length (presentSlots (tables B xs))) (check B (length xs) (tables B xs)) 0 n e)
-
 -- ---- the leaves: what they read of the image is what the front table has
 
 module _ (B : ℕ) (xs : List ℕ) (h : roomCheck B (length xs) ≡ 0) where

@@ -12,8 +12,8 @@ use Rattle.units.specs.Bytes.{bytes, allZero}
 use Rattle.units.specs.Guids.{guidBytes, isNil}
 use Rattle.units.specs.Held.{Small, GuidHeld}
 use Rattle.units.proofs.Lists.{drop-next}
-use Rattle.units.proofs.Laws.{length-bytes, field-here}
-use Rattle.units.proofs.GuidLaws.{length-guid}
+use Rattle.units.proofs.Laws.{length-bytes, field-here, Low, low-append, low-bytes}
+use Rattle.units.proofs.GuidLaws.{length-guid, low-guid}
 use Rattle.partition.specs.declared.Partition.{Partition}
 use Rattle.partition.specs.Format.{unitBytes, firstZero, cleared, entryBytes, named, zeroPartition}
 use Rattle.partition.specs.Held.{PartitionHeld}
@@ -118,32 +118,17 @@ zero-bytes-of = refl
 
 -- ---- every byte of a record is a byte
 
-pub small-append : (xs ys : List ℕ) → Small xs → Small ys → Small (xs ++ ys)
-small-append [] ys f g k = g k
-small-append (x ∷ xs) ys f g zero = f 0
-small-append (x ∷ xs) ys f g (suc k) = small-append xs ys (λ j. f (suc j)) g k
-
-pub small-bytes : (n x : ℕ) → Small (bytes n x)
-unfolding bytes
-small-bytes zero x k = omega arith
-small-bytes (suc n) x zero = omega arith
-small-bytes (suc n) x (suc k) = small-bytes n (x / 256) k
-
-small-units : (us : List ℕ) → Small (unitBytes us)
+low-units : (us : List ℕ) → Low (unitBytes us)
 unfolding unitBytes
-small-units [] k = omega arith
-small-units (u ∷ us) k = small-append (bytes 2 u) (unitBytes us) (small-bytes 2 u) (small-units us) k
-
-pub small-guid : (g : Guid) → GuidHeld g → Small (guidBytes g)
-small-guid g h =
-    small-append (bytes 4 (g .«time_low»)) _ (small-bytes 4 _)
-    (small-append (bytes 2 (g .«time_mid»)) _ (small-bytes 2 _)
-    (small-append (bytes 2 (g .«time_high»)) _ (small-bytes 2 _) (h .tail)))
+low-units [] = record { each = λ k. omega arith }
+low-units (u ∷ us) = low-append (low-bytes 2 u) (low-units us)
 
 pub small-record : (p : Partition) → PartitionHeld p → Small (entryBytes p)
 small-record p h =
-    small-append (guidBytes (p .«part_type_guid»)) _ (small-guid (p .«part_type_guid») (h .type))
-    (small-append (guidBytes (p .«part_guid»)) _ (small-guid (p .«part_guid») (h .guid))
-    (small-append (bytes 8 (p .«first_lba» .0)) _ (small-bytes 8 _)
-    (small-append (bytes 8 (p .«last_lba» .0)) _ (small-bytes 8 _)
-    (small-append (bytes 8 (p .flags)) _ (small-bytes 8 _) (small-units (p .name))))))
+    let low : Low (entryBytes p) =
+    low-append (low-guid (p .«part_type_guid») (h .type))
+    (low-append (low-guid (p .«part_guid») (h .guid))
+    (low-append (low-bytes 8 _)
+    (low-append (low-bytes 8 _)
+    (low-append (low-bytes 8 _) (low-units (p .name)))))) in
+    low .each

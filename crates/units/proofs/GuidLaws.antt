@@ -20,7 +20,7 @@ use Rattle.units.specs.Bytes.{part, num, bytes, allZero}
 use Rattle.units.specs.Guids.{tailAt, tailBytes, guidAt, guidBytes, nilGuid, isNil}
 use Rattle.units.specs.Held.{Small, FitGuid, GuidHeld}
 use Rattle.units.proofs.Lists.{getD-part, part-split, part-step, drop-sets}
-use Rattle.units.proofs.Laws.{length-bytes, num-part, num-drop, num-here, num-next, small-eight, bytes-num, zero-append, zero-bytes, zero-at, and-assoc, and-both}
+use Rattle.units.proofs.Laws.{length-bytes, num-part, num-drop, num-here, num-next, Low, low-append, low-bytes, small-eight, bytes-num, zero-append, zero-bytes, zero-at, and-assoc, and-both}
 
 pub length-guid : (g : Guid) → length (guidBytes g) ≡ 16
 length-guid g = simp (length-append, length-bytes)
@@ -40,6 +40,10 @@ guid-held-of g vs o =
           small-eight (t .0 .1) (t .1 .0 .1) (t .1 .1 .0 .1) (t .1 .1 .1 .0 .1)
           (u .0 .1) (u .1 .0 .1) (u .1 .1 .0 .1) (u .1 .1 .1 .0 .1);
     }
+
+-- every byte of a GUID is a byte
+pub low-guid : (g : Guid) → GuidHeld g → Low (guidBytes g)
+low-guid g h = low-append (low-bytes 4 _) (low-append (low-bytes 2 _) (low-append (low-bytes 2 _) (record { each = h .tail })))
 
 guid-eq : {a b c a′ b′ c′ : ℕ} {t t′ : Tail} → a ≡ a′ → b ≡ b′ → c ≡ c′ → t ≡ t′
     → _≡_ {A = Guid}

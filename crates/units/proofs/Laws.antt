@@ -231,6 +231,27 @@ small-drop xs at h k = rw (getD-drop at xs k 0) (h (at + k))
 pub small-part : (xs : List ℕ) (at n : ℕ) → Small xs → Small (part xs at n)
 small-part xs at n h = small-take n (drop at xs) (small-drop xs at h)
 
+-- a list of bytes, as a record that shows which list
+pub record Low (xs : List ℕ) : Type 0 where
+  pub each : Small xs
+
+pub low-append : {xs ys : List ℕ} → Low xs → Low ys → Low (xs ++ ys)
+low-append {xs} {ys} p q = record { each = go xs (p .each) }
+  where
+    go : (l : List ℕ) → Small l → Small (l ++ ys)
+    go [] f k = q .each k
+    go (x ∷ l) f zero = f 0
+    go (x ∷ l) f (suc k) = go l (λ j. f (suc j)) k
+
+pub low-bytes : (n x : ℕ) → Low (bytes n x)
+unfolding bytes
+low-bytes n x = record { each = go n x }
+  where
+    go : (n x : ℕ) → Small (bytes n x)
+    go zero x k = omega arith
+    go (suc n) x zero = omega arith
+    go (suc n) x (suc k) = go n (x / 256) k
+
 -- eight bytes, given one by one
 pub small-eight : {a b c d e f g h : ℕ} → a < 256 → b < 256 → c < 256 → d < 256 → e < 256 → f < 256 → g < 256 → h < 256
     → Small (a ∷ b ∷ c ∷ d ∷ e ∷ f ∷ g ∷ h ∷ [])
