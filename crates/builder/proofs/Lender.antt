@@ -41,7 +41,8 @@ use denote.Triple.Table.{entered, cited}
 use denote.Triple.Clauses.{ensured, lasts}
 use denote.Triple.Walked.{says, Stays, stay-dropped, walkOf, goes-dropped, ends-at, walked, walk-meets}
 use denote.Exit.{yes}
-use Rattle.builder.proofs.Setter.{Setting, still, ended-val, clauses-val, ended-ref, clauses-ref, ByVal, ByRef}
+use Rattle.units.proofs.Params.{still}
+use Rattle.builder.proofs.Setter.{Setting, ended-val, clauses-val, ended-ref, clauses-ref, ByVal, ByRef}
 
 module _ (s : Setting) (φ : s .S .D → s .R .Denot → s .S .D) (k : Name) where
   abbrev S : Declared

@@ -5,6 +5,7 @@ use denote.Builtin.{u64}
 use denote.Triple.Spec.{tripleOf}
 use denote.Triple.Table.{entered, cited}
 use mir.Syntax.{w64}
+use Rattle.units.proofs.Params.{int}
 use Rattle.rows.proofs.Lends as law
 use Rattle.rows.proofs.inner.fill.Symbol as g-def
 use Rattle.rows.proofs.inner.fill.Symbol.{name as #g}
@@ -23,7 +24,7 @@ use Rattle.card_row.proofs.listing.Code as code
 abbrev call : law.Call
 call = record {
   Rs = u64 ∷ [];
-  pars = (law.int w64, tt);
+  pars = (int w64, tt);
   ask = λ xs a. cardEntries (a .0) xs;
   told = λ xs a m. listingRead (a .0) xs m;
   same = λ xs a m. listed-within (a .0) xs m;
