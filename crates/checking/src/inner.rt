@@ -72,20 +72,20 @@ fn back_sum<'a>(t: &'a [u32; 4096], img: &'a [u8], at: BytePlace, agree: bool, s
 fn copy_number<'a>(
     t: &'a [u32; 4096],
     img: &'a [u8],
-    at: usize,
+    at: BytePlace,
     b: u64,
     back: bool,
     sum: u32,
 ) -> u32
     requires { ⌜ Rows 16 (now t) ⌝ }
-    requires { ⌜ (roomCheck b (length (now img)) ≡ 0) × (at + 92 ≤ length (now img)) ⌝ }
-    ensures { λ r. ⌜ ((array : ℕ) → sum ≡ crc (part (now (img .entry)) array 16384) → r ≡ copyCheck b (length (now (img .entry))) (sideOf back) (part (now (img .entry)) at 92) (part (now (img .entry)) array 16384)) ⌝ }
+    requires { ⌜ (roomCheck b (length (now img)) ≡ 0) × (at .0 + 92 ≤ length (now img)) ⌝ }
+    ensures { λ r. ⌜ ((array : ℕ) → sum ≡ crc (part (now (img .entry)) array 16384) → r ≡ copyCheck b (length (now (img .entry))) (sideOf back) (part (now (img .entry)) (at .0) 92) (part (now (img .entry)) array 16384)) ⌝ }
 {
-    if !units::inner::same_at(img, at, b"EFI PART") {
+    if !units::inner::same_at(img, at.0, b"EFI PART") {
         return 4;
     }
-    let h = header::inner::header_at(img, at);
-    if crc32::inner::header_sum_at(t, img, at) != h.crc32 {
+    let h = header::inner::header_at(img, at.0);
+    if crc32::inner::header_sum_at(t, img, at.0) != h.crc32 {
         return 5;
     }
     if !laid_fields(h, img.len(), b, back) {
@@ -111,13 +111,13 @@ fn entry_ok(img: &[u8], at: usize, first: u64, last: u64) -> bool
 }
 
 // The same of each of the 128 entries.
-fn each_ok(img: &[u8], at: usize, first: u64, last: u64) -> bool
-    requires { ⌜ at + 16384 ≤ length (now img) ⌝ }
-    ensures { λ r. ⌜ ((B n : ℕ) → first ≡ firstUsable B → last ≡ lastUsable B n → r ≡ all 128 (λ (k : ℕ). okEntry B n (entry (part (now (img .entry)) at 16384) k))) ⌝ }
+fn each_ok(img: &[u8], at: BytePlace, first: u64, last: u64) -> bool
+    requires { ⌜ at .0 + 16384 ≤ length (now img) ⌝ }
+    ensures { λ r. ⌜ ((B n : ℕ) → first ≡ firstUsable B → last ≡ lastUsable B n → r ≡ all 128 (λ (k : ℕ). okEntry B n (entry (part (now (img .entry)) (at .0) 16384) k))) ⌝ }
 {
     let mut k = 0;
     while k < 128 {
-        if !entry_ok(img, at + 128 * k, first, last) {
+        if !entry_ok(img, at.0 + 128 * k, first, last) {
             return false;
         }
         k += 1;
@@ -139,11 +139,11 @@ pub fn meets(img: &[u8], at: usize, first: u64, last: u64) -> bool
 }
 
 // Whether entry k shares no block with an entry before it.
-fn apart_below(img: &[u8], at: usize, k: usize) -> bool
-    requires { ⌜ (at + 16384 ≤ length (now img)) × (k < 128) ⌝ }
-    ensures { λ r. ⌜ r ≡ all k (λ (j : ℕ). not (clash (entry (part (now (img .entry)) at 16384) k) (entry (part (now (img .entry)) at 16384) j))) ⌝ }
+fn apart_below(img: &[u8], at: BytePlace, k: usize) -> bool
+    requires { ⌜ (at .0 + 16384 ≤ length (now img)) × (k < 128) ⌝ }
+    ensures { λ r. ⌜ r ≡ all k (λ (j : ℕ). not (clash (entry (part (now (img .entry)) (at .0) 16384) k) (entry (part (now (img .entry)) (at .0) 16384) j))) ⌝ }
 {
-    let own = at + 128 * k;
+    let own = at.0 + 128 * k;
     if units::inner::all_zero(img, own, 16) {
         return true;
     }
@@ -151,7 +151,7 @@ fn apart_below(img: &[u8], at: usize, k: usize) -> bool
     let last = units::inner::u64_at(img, own + 40);
     let mut j = 0;
     while j < k {
-        if meets(img, at + 128 * j, first, last) {
+        if meets(img, at.0 + 128 * j, first, last) {
             return false;
         }
         j += 1;
@@ -183,21 +183,21 @@ fn greatest_last(img: &[u8], own: usize, top: u64) -> u64
 }
 
 // The same as `apart_below`, where no entry before entry k ends after block top: only an entry that starts at top or before needs to be compared.
-fn apart_from(img: &[u8], at: usize, k: usize, top: u64) -> bool
-    requires { ⌜ (at + 16384 ≤ length (now img)) × (k < 128) ⌝ }
-    requires { ⌜ Below (part (now img) at 16384) k top ⌝ }
-    ensures { λ r. ⌜ r ≡ all k (λ (j : ℕ). not (clash (entry (part (now (img .entry)) at 16384) k) (entry (part (now (img .entry)) at 16384) j))) ⌝ }
+fn apart_from(img: &[u8], at: BytePlace, k: usize, top: u64) -> bool
+    requires { ⌜ (at .0 + 16384 ≤ length (now img)) × (k < 128) ⌝ }
+    requires { ⌜ Below (part (now img) (at .0) 16384) k top ⌝ }
+    ensures { λ r. ⌜ r ≡ all k (λ (j : ℕ). not (clash (entry (part (now (img .entry)) (at .0) 16384) k) (entry (part (now (img .entry)) (at .0) 16384) j))) ⌝ }
 {
-    if starts_after(img, at + 128 * k, top) {
+    if starts_after(img, at.0 + 128 * k, top) {
         return true;
     }
     apart_below(img, at, k)
 }
 
 // Whether no two entries share a block. Entries in the order of their blocks are passed through once.
-fn all_apart(img: &[u8], at: usize) -> bool
-    requires { ⌜ at + 16384 ≤ length (now img) ⌝ }
-    ensures { λ r. ⌜ r ≡ all 128 (λ (j : ℕ). all 128 (λ (k : ℕ). pick (eqb j k) true (not (clash (entry (part (now (img .entry)) at 16384) j) (entry (part (now (img .entry)) at 16384) k))))) ⌝ }
+fn all_apart(img: &[u8], at: BytePlace) -> bool
+    requires { ⌜ at .0 + 16384 ≤ length (now img) ⌝ }
+    ensures { λ r. ⌜ r ≡ all 128 (λ (j : ℕ). all 128 (λ (k : ℕ). pick (eqb j k) true (not (clash (entry (part (now (img .entry)) (at .0) 16384) j) (entry (part (now (img .entry)) (at .0) 16384) k))))) ⌝ }
 {
     let mut top = 0;
     let mut k = 0;
@@ -205,16 +205,16 @@ fn all_apart(img: &[u8], at: usize) -> bool
         if !apart_from(img, at, k, top) {
             return false;
         }
-        top = greatest_last(img, at + 128 * k, top);
+        top = greatest_last(img, at.0 + 128 * k, top);
         k += 1;
     }
     true
 }
 
 // What 16 tests of the array at a place.
-fn entries_ok(img: &[u8], at: usize, b: u64) -> bool
-    requires { ⌜ (roomCheck b (length (now img)) ≡ 0) × (at + 16384 ≤ length (now img)) ⌝ }
-    ensures { λ r. ⌜ r ≡ entriesOk b (length (now (img .entry))) (part (now (img .entry)) at 16384) ⌝ }
+fn entries_ok(img: &[u8], at: BytePlace, b: u64) -> bool
+    requires { ⌜ (roomCheck b (length (now img)) ≡ 0) × (at .0 + 16384 ≤ length (now img)) ⌝ }
+    ensures { λ r. ⌜ r ≡ entriesOk b (length (now (img .entry))) (part (now (img .entry)) (at .0) 16384) ⌝ }
 {
     let first = tables::inner::first_usable(b);
     let last = tables::inner::last_usable(img.len(), b);
@@ -225,12 +225,19 @@ fn entries_ok(img: &[u8], at: usize, b: u64) -> bool
 }
 
 // 17, where the GUIDs differ or the arrays do not agree, and 16 of the entries. The headers are at front and back, the array at array.
-fn pair_number(img: &[u8], front: usize, back: usize, array: usize, agree: bool, b: u64) -> u32
-    requires { ⌜ (roomCheck b (length (now img)) ≡ 0) × (array + 16384 ≤ length (now img)) ⌝ }
-    requires { ⌜ (front + 92 ≤ length (now img)) × (back + 92 ≤ length (now img)) ⌝ }
-    ensures { λ r. ⌜ r ≡ orElse (when (not (same (part (now (img .entry)) (front + 56) 16) (part (now (img .entry)) (back + 56) 16) && agree)) 17) (when (not (entriesOk b (length (now (img .entry))) (part (now (img .entry)) array 16384))) 16) ⌝ }
+fn pair_number(
+    img: &[u8],
+    front: BytePlace,
+    back: BytePlace,
+    array: BytePlace,
+    agree: bool,
+    b: u64,
+) -> u32
+    requires { ⌜ (roomCheck b (length (now img)) ≡ 0) × (array .0 + 16384 ≤ length (now img)) ⌝ }
+    requires { ⌜ (front .0 + 92 ≤ length (now img)) × (back .0 + 92 ≤ length (now img)) ⌝ }
+    ensures { λ r. ⌜ r ≡ orElse (when (not (same (part (now (img .entry)) (front .0 + 56) 16) (part (now (img .entry)) (back .0 + 56) 16) && agree)) 17) (when (not (entriesOk b (length (now (img .entry))) (part (now (img .entry)) (array .0) 16384))) 16) ⌝ }
 {
-    if !(same_parts(img, front + 56, back + 56, 16) & agree) {
+    if !(same_parts(img, front.0 + 56, back.0 + 56, 16) & agree) {
         return 17;
     }
     if !entries_ok(img, array, b) {
@@ -252,16 +259,16 @@ fn tables_number<'a>(t: &'a [u32; 4096], img: &'a [u8], b: u64) -> u32
     let other = tables::inner::array_place(len, b, true);
     let agree = same_parts(img, array.0, other.0, 16384);
     let sum = tables::inner::array_sum(t, img, array);
-    let front_found = copy_number(t, img, front.0, b, false, sum);
+    let front_found = copy_number(t, img, front, b, false, sum);
     if front_found != 0 {
         return front_found;
     }
     let other_sum = back_sum(t, img, other, agree, sum);
-    let back_found = copy_number(t, img, back.0, b, true, other_sum);
+    let back_found = copy_number(t, img, back, b, true, other_sum);
     if back_found != 0 {
         return back_found;
     }
-    pair_number(img, front.0, back.0, array.0, agree, b)
+    pair_number(img, front, back, array, agree, b)
 }
 
 // The number of the check, for the calls that it comes first in: they lend the check sum's table, and use it again.

@@ -17,7 +17,7 @@ use Rattle.checking.proofs.inner.all_apart.Tie as tie
 
 abbrev Inv-loop : tie.InvT-loop
 Inv-loop img at top₀ k₀ top k =
-    (k ≤ 128) × (all k (λ (i : ℕ). all i (λ (j : ℕ). not (clash (entry (part img at 16384) i) (entry (part img at 16384) j)))) ≡ true) × Below (part img at 16384) k top
+    (k ≤ 128) × (all k (λ (i : ℕ). all i (λ (j : ℕ). not (clash (entry (part img (at .0) 16384) i) (entry (part img (at .0) 16384) j)))) ≡ true) × Below (part img (at .0) 16384) k top
 
 abbrev μ-loop : tie.MeasureT-loop
 μ-loop img at top₀ k₀ top k = 128 - k
@@ -32,7 +32,7 @@ returns : tie.Need-returns Inv-loop μ-loop
 returns c =
     let a = c .before .before .before .before .before .args in
     sym (all-fails 128 _ (c .before .before .before .loop .k) (omega arith) (sym (c .before .apart-from .ensures) ∙ not-true _ (c .if1 .taken)))
-    ∙ square (part (a .img .now) (a .at) 16384)
+    ∙ square (part (a .img .now) (a .at .0) 16384)
 
 mul-greatest-last : tie.Need-mul-greatest-last Inv-loop μ-loop
 mul-greatest-last c = search needs
@@ -51,16 +51,16 @@ loop-less c = omega arith
 
 loop-again : tie.Need-loop-again Inv-loop μ-loop
 loop-again c =
-    let l = c .before .before .before .before .loop in
-    let a = c .before .before .before .before .before .before .args in
-    let e = c .greatest-last .ensures ∙ ap (λ (e : List ℕ). greatestLast e (l .top)) (sym (entry-part (a .img .now) (a .at) (l .k) (omega arith))) in
-    (omega arith, all-more (l .k) _ (l .inv .1) (sym (c .before .before .apart-from .ensures) ∙ not-false _ (c .before .if1 .left)), below-more (part (a .img .now) (a .at) 16384) (l .k) (l .top) (l .inv .2) e)
+    let l = c .before .before .before .before .before .loop in
+    let a = c .before .before .before .before .before .before .before .args in
+    let e = c .greatest-last .ensures ∙ ap (λ (e : List ℕ). greatestLast e (l .top)) (sym (entry-part (a .img .now) (a .at .0) (l .k) (omega arith))) in
+    (omega arith, all-more (l .k) _ (l .inv .1) (sym (c .before .before .before .apart-from .ensures) ∙ not-false _ (c .before .before .if1 .left)), below-more (part (a .img .now) (a .at .0) 16384) (l .k) (l .top) (l .inv .2) e)
 
 returns-2 : tie.Need-returns-2 Inv-loop μ-loop
 returns-2 c =
     let a = c .before .before .before .args in
     let l = c .before .loop in
-    all-end (l .k) 128 _ (omega arith) (omega arith) (l .inv .1) ∙ square (part (a .img .now) (a .at) 16384)
+    all-end (l .k) 128 _ (omega arith) (omega arith) (l .inv .1) ∙ square (part (a .img .now) (a .at .0) 16384)
 
 pub all-apart-spec : {M : Type 1} → statement M
 all-apart-spec = tie.close (tie.spec Inv-loop μ-loop loop-holds apart-from-requires returns mul-greatest-last add-greatest-last greatest-last-requires add-k loop-less loop-again returns-2)

@@ -14,7 +14,7 @@ use Rattle.checking.proofs.inner.apart_below.Tie as tie
 
 abbrev Inv-loop : tie.InvT-loop
 Inv-loop img at k own first last j₀ j =
-    (j ≤ k) × (all j (λ (i : ℕ). not (clash (entry (part img at 16384) k) (entry (part img at 16384) i))) ≡ true)
+    (j ≤ k) × (all j (λ (i : ℕ). not (clash (entry (part img (at .0) 16384) k) (entry (part img (at .0) 16384) i))) ≡ true)
 
 abbrev μ-loop : tie.MeasureT-loop
 μ-loop img at k own first last j₀ j = k - j
@@ -30,8 +30,8 @@ all-zero-requires c κs = search needs
 
 returns : tie.Need-returns Inv-loop μ-loop
 returns c =
-    let a = c .before .before .before .args in
-    sym (all-of (a .k) _ (λ j h. ap not (clash-unused _ _ (own-used (a .img .now) (a .at) (a .k) (omega arith) (c .before .all-zero .ensures) ∙ ap not (c .if1 .taken)))))
+    let a = c .before .before .before .before .args in
+    sym (all-of (a .k) _ (λ j h. ap not (clash-unused _ _ (own-used (a .img .now) (a .at .0) (a .k) (omega arith) (c .before .all-zero .ensures) ∙ ap not (c .if1 .taken)))))
 
 add-u64-at : tie.Need-add-u64-at Inv-loop μ-loop
 add-u64-at c = search needs
@@ -58,20 +58,20 @@ meets-requires : tie.Need-meets-requires Inv-loop μ-loop
 meets-requires c κs = search needs
 
 -- whether entry j shares a block with entry k, as the code finds it
-found : (c : tie.After-meets Inv-loop μ-loop) → let a = c .before .before .before .before .before .before .before .before .args in let j = c .before .before .loop .j in
-    c .meets .result ≡ clash (entry (part (a .img .now) (a .at) 16384) (a .k)) (entry (part (a .img .now) (a .at) 16384) j)
+found : (c : tie.After-meets Inv-loop μ-loop) → let a = c .before .before .before .before .before .before .before .before .before .before .args in let j = c .before .before .before .loop .j in
+    c .meets .result ≡ clash (entry (part (a .img .now) (a .at .0) 16384) (a .k)) (entry (part (a .img .now) (a .at .0) 16384) j)
 found c =
-    let a = c .before .before .before .before .before .before .before .before .args in
-    let j = c .before .before .loop .j in
-    c .meets .ensures (entry (part (a .img .now) (a .at) 16384) (a .k))
-    (own-used (a .img .now) (a .at) (a .k) (omega arith) (c .before .before .before .before .before .before .all-zero .ensures) ∙ ap not (c .before .before .before .before .before .if1 .left))
-    (own-first (a .img .now) (a .at) (a .k) (omega arith) (c .before .before .before .before .u64-at .ensures))
-    (own-last (a .img .now) (a .at) (a .k) (omega arith) (c .before .before .before .u64-at2 .ensures))
-    ∙ ap (clash (entry (part (a .img .now) (a .at) 16384) (a .k))) (sym (entry-part (a .img .now) (a .at) j (omega arith)))
+    let a = c .before .before .before .before .before .before .before .before .before .before .args in
+    let j = c .before .before .before .loop .j in
+    c .meets .ensures (entry (part (a .img .now) (a .at .0) 16384) (a .k))
+    (own-used (a .img .now) (a .at .0) (a .k) (omega arith) (c .before .before .before .before .before .before .before .all-zero .ensures) ∙ ap not (c .before .before .before .before .before .before .if1 .left))
+    (own-first (a .img .now) (a .at .0) (a .k) (omega arith) (c .before .before .before .before .before .u64-at .ensures))
+    (own-last (a .img .now) (a .at .0) (a .k) (omega arith) (c .before .before .before .before .u64-at2 .ensures))
+    ∙ ap (clash (entry (part (a .img .now) (a .at .0) 16384) (a .k))) (sym (entry-part (a .img .now) (a .at .0) j (omega arith)))
 
 returns-2 : tie.Need-returns-2 Inv-loop μ-loop
 returns-2 c =
-    let j = c .before .before .before .loop .j in
+    let j = c .before .before .before .before .loop .j in
     sym (all-fails _ _ j (omega arith) (ap not (sym (found (c .before)) ∙ c .if2 .taken)))
 
 add-j : tie.Need-add-j Inv-loop μ-loop
@@ -82,7 +82,7 @@ loop-less c = omega arith
 
 loop-again : tie.Need-loop-again Inv-loop μ-loop
 loop-again c =
-    let l = c .before .before .before .loop in
+    let l = c .before .before .before .before .loop in
     (omega arith, all-more (l .j) _ (l .inv .1) (ap not (sym (found (c .before)) ∙ c .if2 .left)))
 
 returns-3 : tie.Need-returns-3 Inv-loop μ-loop

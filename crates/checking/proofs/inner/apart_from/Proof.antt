@@ -22,10 +22,10 @@ starts-after-requires c κs = search needs
 
 returns : tie.Need-returns
 returns c =
-    let s = c .before .before .before in
+    let s = c .before .before .before .before in
     let a = s .args in
-    sym (after-apart (part (a .img .now) (a .at) 16384) (a .k) (a .top) (s .pre .1)
-    (ap (λ (e : List ℕ). startsAfter e (a .top)) (entry-part (a .img .now) (a .at) (a .k) (s .pre .0 .1)) ∙ sym (c .before .starts-after .ensures) ∙ c .if1 .taken))
+    sym (after-apart (part (a .img .now) (a .at .0) 16384) (a .k) (a .top) (s .pre .1)
+    (ap (λ (e : List ℕ). startsAfter e (a .top)) (entry-part (a .img .now) (a .at .0) (a .k) (s .pre .0 .1)) ∙ sym (c .before .starts-after .ensures) ∙ c .if1 .taken))
 
 apart-below-requires : tie.Need-apart-below-requires
 apart-below-requires c κs = search needs

@@ -14,11 +14,11 @@ use Rattle.checking.proofs.inner.copy_number.Tie as tie
 
 -- the table's check as the definition has it
 by : (c : tie.After-shared-slice-known) (array : ℕ) → let a = c .before .args in
-    readCheck (a .b) (length (a .img .now)) (sideOf (a .back)) (a .img .now) (a .at) (part (a .img .now) array 16384)
-    ≡ copyCheck (a .b) (length (a .img .now)) (sideOf (a .back)) (part (a .img .now) (a .at) 92) (part (a .img .now) array 16384)
+    readCheck (a .b) (length (a .img .now)) (sideOf (a .back)) (a .img .now) (a .at .0) (part (a .img .now) array 16384)
+    ≡ copyCheck (a .b) (length (a .img .now)) (sideOf (a .back)) (part (a .img .now) (a .at .0) 92) (part (a .img .now) array 16384)
 by c array =
     let a = c .before .args in
-    copy-by (a .b) _ (a .img .now) (a .at) array (c .before .pre .1 .0) (omega arith) (c .before .pre .1 .1) (λ k. omega (arith, c .shared-slice-known .given k))
+    copy-by (a .b) _ (a .img .now) (a .at .0) array (c .before .pre .1 .0) (omega arith) (c .before .pre .1 .1) (λ k. omega (arith, c .shared-slice-known .given k))
 
 slice-aggregate-same-at : tie.Need-slice-aggregate-same-at
 slice-aggregate-same-at c = search needs

@@ -15,7 +15,7 @@ use Rattle.checking.proofs.inner.each_ok.Tie as tie
 
 abbrev Inv-loop : tie.InvT-loop
 Inv-loop img at first last k₀ k =
-    (k ≤ 128) × ((B n : ℕ) → first ≡ firstUsable B → last ≡ lastUsable B n → all k (λ (i : ℕ). okEntry B n (entry (part img at 16384) i)) ≡ true)
+    (k ≤ 128) × ((B n : ℕ) → first ≡ firstUsable B → last ≡ lastUsable B n → all k (λ (i : ℕ). okEntry B n (entry (part img (at .0) 16384) i)) ≡ true)
 
 abbrev μ-loop : tie.MeasureT-loop
 μ-loop img at first last k₀ k = 128 - k
@@ -34,9 +34,9 @@ entry-ok-requires c κs = search needs
 
 returns : tie.Need-returns Inv-loop μ-loop
 returns c B n f l =
-    let a = c .before .before .before .before .before .args in
-    let k = c .before .before .before .loop .k in
-    sym (all-fails 128 _ k (omega arith) (ap (okEntry B n) (entry-part (a .img .now) (a .at) k (omega arith)) ∙ sym (c .before .entry-ok .ensures B n f l) ∙ not-true _ (c .if1 .taken)))
+    let a = c .before .before .before .before .before .before .args in
+    let k = c .before .before .before .before .loop .k in
+    sym (all-fails 128 _ k (omega arith) (ap (okEntry B n) (entry-part (a .img .now) (a .at .0) k (omega arith)) ∙ sym (c .before .entry-ok .ensures B n f l) ∙ not-true _ (c .if1 .taken)))
 
 add-k : tie.Need-add-k Inv-loop μ-loop
 add-k c = search needs
@@ -46,10 +46,10 @@ loop-less c = omega arith
 
 loop-again : tie.Need-loop-again Inv-loop μ-loop
 loop-again c =
-    let a = c .before .before .before .before .before .args in
-    let l = c .before .before .before .loop in (
+    let a = c .before .before .before .before .before .before .args in
+    let l = c .before .before .before .before .loop in (
       omega arith,
-      λ B n p q. all-more (l .k) _ (l .inv .1 B n p q) (ap (okEntry B n) (entry-part (a .img .now) (a .at) (l .k) (omega arith)) ∙ sym (c .before .entry-ok .ensures B n p q) ∙ not-false _ (c .if1 .left)),
+      λ B n p q. all-more (l .k) _ (l .inv .1 B n p q) (ap (okEntry B n) (entry-part (a .img .now) (a .at .0) (l .k) (omega arith)) ∙ sym (c .before .entry-ok .ensures B n p q) ∙ not-false _ (c .if1 .left)),
     )
 
 returns-2 : tie.Need-returns-2 Inv-loop μ-loop

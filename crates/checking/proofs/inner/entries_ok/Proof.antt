@@ -24,7 +24,7 @@ each-ok-requires c κs = search needs
 
 -- whether each entry is good, as the code finds it
 each : (c : tie.After-each-ok) → let a = c .before .before .before .before .args in
-    c .each-ok .result ≡ all 128 (λ (k : ℕ). okEntry (a .b) (length (a .img .now)) (entry (part (a .img .now) (a .at) 16384) k))
+    c .each-ok .result ≡ all 128 (λ (k : ℕ). okEntry (a .b) (length (a .img .now)) (entry (part (a .img .now) (a .at .0) 16384) k))
 each c = c .each-ok .ensures _ _ (ap (λ (l : Lba). l .0) (c .before .before .first-usable .ensures)) (ap (λ (l : Lba). l .0) (c .before .last-usable .ensures))
 
 returns : tie.Need-returns
