@@ -285,7 +285,7 @@ gpt_slot_read card_read_slot(const uint8_t *img, size_t img_len, uint64_t b, uin
    The check's numbers. */
 card_used_read card_nth_used(const uint8_t *img, size_t img_len, uint64_t b, uint32_t k);
 
-/* One row of the listing. */
+/* One row of card_list and of gpt_file_read_partitions. */
 typedef struct card_row {
     uint64_t slot;
     gpt_partition partition;
@@ -443,6 +443,11 @@ gpt_count gpt_count_partitions(const uint8_t *img, size_t img_len, gpt_header he
 /* The first present slot of that array after a slot; 0 stands before the first.
    1, 3, 7, 2, 6. */
 gpt_next gpt_next_partition(const uint8_t *img, size_t img_len, gpt_header header, uint64_t b, uint32_t after);
+
+/* The present entries of that array into lent bytes: a card_row for each, ascending, and how many there are. The record is the one that
+   gpt_read_partition gives. The bytes after the last row stay.
+   1, 3, 7, 2, 6, 15 where out_len is less than 136 times the count. */
+gpt_count gpt_file_read_partitions(const uint8_t *img, size_t img_len, gpt_header header, uint64_t b, uint8_t *out, size_t out_len);
 
 /* ---- the ported calls: the protective MBR */
 

@@ -319,15 +319,45 @@ static void entries(void) {
     SAME(at.place, 0);
 }
 
+/* The present entries of an array at once: q in slot 4 and p in slot 12. */
+static void array_rows(const uint8_t *room, size_t len, gpt_header h, gpt_partition p, gpt_partition q) {
+    card_row rows[3], old[3];
+    memset(rows, 0x5A, sizeof rows);
+    memcpy(old, rows, sizeof rows);
+    gpt_count n = gpt_file_read_partitions(room, len, h, BLOCK, (uint8_t *)rows, 271);
+    SAME(n.number, CARD_NO_ROOM);
+    SAME(n.count, 0);
+    BYTES(rows, old, sizeof rows);
+    gpt_header other = h;
+    other.crc32_parts++;
+    n = gpt_file_read_partitions(room, len, other, BLOCK, (uint8_t *)rows, sizeof rows);
+    SAME(n.number, CARD_PARTS_CRC);
+    SAME(n.count, 0);
+    SAME(gpt_file_read_partitions(room, len, h, 1, (uint8_t *)rows, sizeof rows).number, CARD_BAD_BLOCK_SIZE);
+    SAME(gpt_file_read_partitions(room, 2559, h, BLOCK, (uint8_t *)rows, sizeof rows).number, CARD_SHORT);
+    BYTES(rows, old, sizeof rows);
+    n = gpt_file_read_partitions(room, len, h, BLOCK, (uint8_t *)rows, sizeof rows);
+    SAME(n.number, 0);
+    SAME(n.count, 2);
+    SAME(rows[0].slot, 4);
+    BYTES(&rows[0].partition, &q, 128);
+    SAME(rows[1].slot, 12);
+    BYTES(&rows[1].partition, &p, 128);
+    BYTES(&rows[2], &old[2], sizeof rows[2]);
+    memset(rows, 0x5A, sizeof rows);
+    SAME(gpt_file_read_partitions(room, len, h, BLOCK, (uint8_t *)rows, 272).count, 2);
+    BYTES(&rows[2], &old[2], sizeof rows[2]);
+}
+
 static void arrays(void) {
     static uint8_t room[8 * BLOCK];
-    gpt_partition p = some(5, 9);
+    gpt_partition p = some(5, 9), q = some(3, 4);
     gpt_header h = {.part_start = 2, .num_parts = 12, .part_size = 128};
     gpt_stored s = gpt_write_entry(room, sizeof room, p, 11, 2, BLOCK, 128);
     SAME(s.number, 0);
     SAME(s.bytes, 128);
     BYTES(room + 2 * BLOCK + 11 * 128, &p, 128);
-    SAME(gpt_write_entry(room, sizeof room, p, 3, 2, BLOCK, 128).number, 0);
+    SAME(gpt_write_entry(room, sizeof room, q, 3, 2, BLOCK, 128).number, 0);
     SAME(gpt_write_entry(room, sizeof room, p, 3, 2, BLOCK, 4097).number, CARD_BAD_ENTRY_SIZE);
     SAME(gpt_write_entry(room, sizeof room, p, MOST, 2, BLOCK, 128).number, CARD_OVERFLOW);
     h.crc32_parts = gpt_crc32(room + 2 * BLOCK, 12 * 128);
@@ -337,8 +367,9 @@ static void arrays(void) {
     gpt_slot_read r = gpt_read_partition(room, sizeof room, h, BLOCK, 4);
     SAME(r.number, 0);
     SAME(r.present, 1);
-    BYTES(&r.partition, &p, 128);
+    BYTES(&r.partition, &q, 128);
     SAME(gpt_read_partition(room, sizeof room, h, BLOCK, 13).number, CARD_BAD_SLOT);
+    array_rows(room, sizeof room, h, p, q);
     SAME(gpt_write_zero_entries(room, sizeof room, 3, 2, 2, BLOCK, 128).bytes, 256);
     ZEROS(room + 2 * BLOCK + 3 * 128, 256);
     SAME(gpt_read_partition(room, sizeof room, h, BLOCK, 4).number, CARD_PARTS_CRC);

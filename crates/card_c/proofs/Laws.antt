@@ -1,12 +1,17 @@
 -- How an answer crosses, one law for each way that the code makes one. No contract cites this file. Assumes nothing.
 use mathlib.Core.Path.{_≡_, refl, sym, ap, _∙_}
 use mathlib.Core.List.{List}
-use Prim.Native.Nat.{ℕ, _≤_, _<_}
+use Prim.Native.Nat.{ℕ, _/_, _≤_, _<_}
 use borrow.Author.Tests.{lt-ltb, le-ltb}
 use lib.ListN.{length}
-use Rattle.units.specs.Answer.{Why, Answer, accepted, refused, refuse, andThen, Beside, beside, Outcome, gives, Ends, ends}
+use Rattle.units.specs.Answer.{Why, Answer, accepted, refused, refuse, andThen, Beside, beside, Outcome, Ends}
 use Rattle.partition.specs.Format.{entryAt}
-use Rattle.card_c.specs.Exports.{told, crossed, aside, answerToC, answered, entryParsed}
+use Rattle.rows.specs.declared.Entry.{Entry}
+use Rattle.rows.specs.declared.inner.Plan.{Plan}
+use Rattle.rows.specs.Plans.{planned, roomed}
+use Rattle.row_bytes.specs.RowBytes.{bytesOutcome}
+use Rattle.card_c.specs.declared.answers.GptCount.{GptCount}
+use Rattle.card_c.specs.Exports.{told, crossed, aside, answerToC, countToC, answered, entryParsed}
 
 module _ {A S : Type 0} (make : ℕ → A → S) (z : A) where
   pub crossed-fine : (a : Answer A) {x : A} → a ≡ accepted x → make 0 x ≡ crossed make z a
@@ -26,10 +31,6 @@ module _ {A S : Type 0} (make : ℕ → A → S) (z : A) where
 -- a call that ends in an outcome ends in the outcome so told
 pub told-ends : {A C : Type 0} (f : A → C) (o : Outcome A) {a : A} {r : C} {i : List ℕ} → Ends o a i → r ≡ f a → Ends (told f o) r i
 told-ends f o e q = record { answer = q ∙ ap f (e .answer); image = e .image }
-
--- the same where the outcome is known by an equation
-pub told-gives : {A C : Type 0} (f : A → C) (o : Outcome A) {a : A} {r : C} {i : List ℕ} → o ≡ gives a i → r ≡ f a → Ends (told f o) r i
-told-gives f o e q = told-ends f o (ends e) q
 
 pub answer-fine : (a : Answer Unit) → a ≡ accepted tt → record { number = 0; slot = 0 } ≡ answerToC a
 unfolding answerToC
@@ -62,3 +63,10 @@ entry-short xs h = rw (lt-ltb (length xs) 128 h)
 pub entry-whole : (xs : List ℕ) → 128 ≤ length xs → entryParsed xs ≡ accepted (entryAt xs 0)
 unfolding entryParsed
 entry-whole xs h = rw (le-ltb (length xs) 128 h)
+
+-- ---- rows in lent bytes
+
+-- a plan carried out, told to C: what the plan says, with the 15 of the rows that the bytes have, is what is asked for
+pub rows-told : (xs out : List ℕ) (p : Plan) {said asked : Answer (List Entry)} → planned xs p ≡ said → roomed (length out / 136) said ≡ asked → {a : Answer ℕ} {r : GptCount} {ys : List ℕ}
+    → Ends (bytesOutcome (roomed (length out / 136) (planned xs p)) out) a ys → r ≡ countToC a → Ends (told countToC (bytesOutcome asked out)) r ys
+rows-told xs out p e f g q = told-ends countToC _ (rw (e, f) at g) q

@@ -6,17 +6,19 @@ use crate::answers::GptCount;
 use crate::answers::GptNext;
 use crate::answers::GptSlotRead;
 use crate::answers::GptStored;
-use crate::rows;
 use partition::Partition;
 use units::BytePlace;
 use units::Guid;
 use units::Slot;
 ghost use mathlib.Core.Path.{_≡_};
+ghost use Prim.Native.Nat.{_/_};
+ghost use lib.ListN.{length};
 ghost use Rattle.units.specs.Answer.{Ends};
 ghost use Rattle.tables.specs.Calls.{layOutcome, checkAnswer, putOutcome, clearOutcome, payloadOutcome};
 ghost use Rattle.tables.specs.Listing.{countAnswer, nextAnswer, slotRead, nthAnswer};
+ghost use Rattle.card_row.specs.Listing.{listingRead};
+ghost use Rattle.row_bytes.specs.RowBytes.{bytesOutcome};
 ghost use Rattle.card_c.specs.Exports.{told, answerToC, storedToC, countToC, nextToC, heldToC, usedToC};
-ghost use Rattle.card_c.specs.Rows.{rowsListed};
 
 // Lays an empty card: 1, 8, 10.
 #[no_mangle]
@@ -99,22 +101,8 @@ pub extern "C" fn card_nth_used(img: &[u8], b: u64, k: u32) -> CardUsedRead
 // The listing into lent bytes, 136 bytes an entry, and how many there are: 15 after the check, where there are fewer bytes.
 #[no_mangle]
 pub extern "C" fn card_list(img: &[u8], b: u64, out: &mut [u8]) -> GptCount
-    ensures { λ r. ⌜ Ends (told countToC (rowsListed b (now (img .entry)) (now (out .entry)))) r (now (out .exit)) ⌝ }
+    ensures { λ r. ⌜ Ends (told countToC (bytesOutcome (listingRead b (now (img .entry)) (length (now (out .entry)) / 136)) (now (out .entry)))) r (now (out .exit)) ⌝ }
 {
-    let found = checking::inner::check_number(img, b);
-    if found != 0 {
-        return GptCount {
-            number: found,
-            count: 0,
-        };
-    }
-    let count = listing::inner::used_count(img, b);
-    if out.len() / 136 < count as usize {
-        return GptCount {
-            number: 15,
-            count: 0,
-        };
-    }
-    rows::put_rows(img, b, count, out);
-    GptCount { number: 0, count }
+    let p = card_row::inner::plan_of(img, b);
+    answers::count_to_c(row_bytes::inner::fill_bytes(img, p, out))
 }

@@ -12,6 +12,7 @@ use units::Placed;
 use units::Slot;
 ghost use mathlib.Core.Path.{_≡_};
 ghost use mathlib.Core.Bool.{not};
+ghost use Prim.Native.Nat.{_/_};
 ghost use lib.ListN.{length};
 ghost use Rattle.units.specs.Answer.{Ends};
 ghost use Rattle.units.specs.Guids.{isNil};
@@ -22,6 +23,8 @@ ghost use Rattle.partition.specs.Lengths.{sectorsLen, bytesLen};
 ghost use Rattle.partition.specs.Device.{entryStored, zerosStored};
 ghost use Rattle.partition.specs.Array.{partitionRead, partitionCount, partitionAfter};
 ghost use Rattle.partition.specs.Meanings.{lengthMeans};
+ghost use Rattle.rows.specs.Row.{partitionsRead};
+ghost use Rattle.row_bytes.specs.RowBytes.{bytesOutcome};
 ghost use Rattle.card_c.specs.Exports.{told, storedToC, countToC, nextToC, heldToC, lengthToC, placeToC, entryToC, entryParsed};
 
 // How many blocks or bytes.
@@ -190,4 +193,18 @@ pub extern "C" fn gpt_next_partition(img: &[u8], h: Header, b: u64, after: u32) 
     ensures { λ r. ⌜ r ≡ nextToC (partitionAfter (now (img .entry)) h b after) ⌝ }
 {
     answers::next_to_c(partition::next_partition(img, h, b, Slot(after)))
+}
+
+// The present entries of that array into lent bytes, 136 bytes an entry, and how many there are: 1, 3, 7, 2, 6, 15 where there are fewer bytes.
+#[no_mangle]
+pub extern "C" fn gpt_file_read_partitions(
+    img: &[u8],
+    h: Header,
+    b: u64,
+    out: &mut [u8],
+) -> GptCount
+    ensures { λ r. ⌜ Ends (told countToC (bytesOutcome (partitionsRead (now (img .entry)) h b (length (now (out .entry)) / 136)) (now (out .entry)))) r (now (out .exit)) ⌝ }
+{
+    let p = rows::inner::plan_for(img, h, b);
+    answers::count_to_c(row_bytes::inner::fill_bytes(img, p, out))
 }

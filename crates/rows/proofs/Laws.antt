@@ -87,12 +87,12 @@ module _ (m : ℕ) (p : Plan) where
   unfolding planWithin
   within-kept l = rw (le-ltb m (p .present) l)
 
-  pub within-fits : planWithin m p .present ≤ m
+  within-fits : planWithin m p .present ≤ m
   unfolding planWithin
   within-fits = by-pick (λ (q : Plan). q .present ≤ m) (ltb m (p .present)) _ _ (λ _. omega arith) (λ e. ltb-false m (p .present) e)
 
   module _ (xs : List ℕ) (d : Made xs p) where
-    pub made-within : Made xs (planWithin m p)
+    made-within : Made xs (planWithin m p)
     unfolding planWithin
     made-within = by-pick (Made xs) (ltb m (p .present)) _ _ (λ _. made-none xs refusal.NoRoom) (λ _. d)
 
@@ -102,7 +102,7 @@ module _ (m : ℕ) (p : Plan) where
     none-refused e = d .counted ∙ ap length (no-entries xs (p .place .0) (p .entries) (d .idle e))
 
     -- so no row is too short for it, and 15 is that of what the plan says
-    pub planned-within : planned xs (planWithin m p) ≡ roomed m (planned xs p)
+    planned-within : planned xs (planWithin m p) ≡ roomed m (planned xs p)
     unfolding planWithin planned roomed
     planned-within = go (verdictMeans (p .verdict)) refl
       where
@@ -119,6 +119,18 @@ module _ (m : ℕ) (p : Plan) where
         go (refused w) e =
             let f : p .present ≤ m = omega (arith, none-refused e) in
             rw (le-ltb m (p .present) f, e)
+
+-- the plan that a call was told is the one for m places
+module _ (m : ℕ) (p : Plan) {q : Plan} (e : q ≡ planWithin m p) where
+  pub plan-fits : q .present ≤ m
+  plan-fits = rw e (within-fits m p)
+
+  module _ (xs : List ℕ) (d : Made xs p) where
+    pub plan-made : Made xs q
+    plan-made = rw e (made-within m p xs d)
+
+    pub plan-says : planned xs q ≡ roomed m (planned xs p)
+    plan-says = ap (planned xs) e ∙ planned-within m p xs d
 
 -- ---- what is answered
 
@@ -195,30 +207,35 @@ module _ (xs : List ℕ) (p : Plan) where
       let m : s .0 + n - t ≡ p .entries - t = omega (arith, r .1, r .2) in
       ((omega (arith, r .1), omega (arith, r .1, r .2)), ap (map (entryOf xs at)) (r .0 ∙ ap (λ (i : ℕ). t ∷ presentFrom xs at t i) m))
 
--- ---- the row at the end
+-- ---- a plan that was carried out
 
--- what a plan and its row come to
-row-by : (xs : List ℕ) (q : Plan) (row : List Entry) → Made xs q → {a : Answer ℕ} {ys : List Entry}
-    → a ≡ countBy q → ys ≡ entriesBy xs q ++ drop (length (entriesBy xs q)) row → RowEnds (rowOutcome (planned xs q) row) a ys
-unfolding countBy planned rowOutcome entriesBy
-row-by xs q row d {a} {ys} e f = go (verdictMeans (q .verdict)) refl
+-- what a plan says, what is answered and the entries that are stored, one way for each answer: a refusal has no entries
+by-answer : (xs : List ℕ) (q : Plan) → Made xs q → (Q : Answer (List Entry) → Answer ℕ → List Entry → Type 0)
+    → ((es : List Entry) → Q (accepted es) (accepted (length es)) es) → ((w : Why) → Q (refused w) (refused w) []) → Q (planned xs q) (countBy q) (entriesBy xs q)
+unfolding countBy planned entriesBy
+by-answer xs q d Q f g = go (verdictMeans (q .verdict)) refl
   where
     es : List Entry
     es = entriesBy xs q
 
-    go : (v : Answer Unit) → verdictMeans (q .verdict) ≡ v → RowEnds (rowOutcome (andThen (verdictMeans (q .verdict)) (λ u. accepted es)) row) a ys
-    go (accepted u) g = rw g (record { answer = (rw g at e) ∙ ap accepted (d .counted); row = f })
-    go (refused w) g =
-        let n : es ≡ [] = no-entries xs (q .place .0) (q .entries) (d .idle g) in
-        rw g (record { answer = rw g at e; row = rw n at f })
+    go : (v : Answer Unit) → verdictMeans (q .verdict) ≡ v
+        → Q (andThen (verdictMeans (q .verdict)) (λ u. accepted es)) (andThen (verdictMeans (q .verdict)) (λ u. accepted (q .present))) es
+    go (accepted u) h = rw (h, d .counted) (f es)
+    go (refused w) h = let n : es ≡ [] = no-entries xs (q .place .0) (q .entries) (d .idle h) in rw (h, n) (g w)
 
+-- the same of a plan for m places
+pub by-plan : (xs : List ℕ) (m : ℕ) (p : Plan) → Made xs p → {q : Plan} → q ≡ planWithin m p → (Q : Answer (List Entry) → Answer ℕ → List Entry → Type 0)
+    → ((es : List Entry) → Q (accepted es) (accepted (length es)) es) → ((w : Why) → Q (refused w) (refused w) []) → Q (roomed m (planned xs p)) (countBy q) (entriesBy xs q)
+by-plan xs m p d {q} e Q f g = rw (← plan-says m p e xs d) (by-answer xs q (plan-made m p e xs d) Q f g)
+
+-- the row at the end
 pub row-ends : (xs : List ℕ) (p : Plan) (row : List Entry) → Made xs p → {q : Plan} {a : Answer ℕ} {ys : List Entry}
     → q ≡ planWithin (length row) p → a ≡ countBy q → ys ≡ entriesBy xs q ++ drop (length (entriesBy xs q)) row
     → RowEnds (rowOutcome (roomed (length row) (planned xs p)) row) a ys
-row-ends xs p row d {q} e f g =
-    let m : Made xs q = rw e (made-within (length row) p xs d) in
-    let s : planned xs q ≡ roomed (length row) (planned xs p) = ap (planned xs) e ∙ planned-within (length row) p xs d in
-    rw (← s) (row-by xs q row m f g)
+unfolding rowOutcome
+row-ends xs p row d {q} {a} {ys} e =
+    by-plan xs (length row) p d e (λ o k es. a ≡ k → ys ≡ es ++ drop (length es) row → RowEnds (rowOutcome o row) a ys)
+    (λ es f g. record { answer = f; row = g }) (λ w f g. record { answer = f; row = g })
 
 -- ---- the header's array: what is found before a row is lent, with the row's 15
 pub found-within : (xs : List ℕ) (h : Header) (b m : ℕ) → roomed m (entriesFound xs h b) ≡ partitionsRead xs h b m

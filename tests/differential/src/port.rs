@@ -171,6 +171,7 @@ extern "C" {
     pub fn gpt_read_partition(img: *const u8, n: usize, header: Header, b: u64, slot: u32) -> SlotRead;
     pub fn gpt_count_partitions(img: *const u8, n: usize, header: Header, b: u64) -> Narrow;
     pub fn gpt_next_partition(img: *const u8, n: usize, header: Header, b: u64, after: u32) -> Narrow;
+    pub fn gpt_file_read_partitions(img: *const u8, n: usize, header: Header, b: u64, out: *mut u8, room: usize) -> Narrow;
     pub fn gpt_mbr_new(lb_size: u32) -> Mbr;
     pub fn gpt_mbr_protective_record(lb_size: u32) -> Record;
     pub fn gpt_mbr_from_bytes(buf: *const u8, n: usize, b: u64) -> MbrRead;

@@ -55,8 +55,36 @@ fn settings(s: &Build) -> Settings {
     t
 }
 
-/// The same values as the original's read_array gives, through the three calls that the port has for them. Where they refuse, all three must
-/// refuse alike; an answer that they do not share is given as number 255.
+/// Whether gpt_file_read_partitions gives these rows: into as many bytes, and into almost a row more. With a row less it must give 15, and every
+/// byte that is no row of an accepted answer must stay.
+fn gives_rows(img: &[u8], h: Header, b: u64, rows: &[u8]) -> bool {
+    let read = |room: usize| {
+        let mut out = vec![0x5A; room + 136];
+        let r = unsafe { gpt_file_read_partitions(img.as_ptr(), img.len(), h, b, out.as_mut_ptr(), room) };
+        (r.number, r.value as usize, out)
+    };
+    let whole = [rows.len(), rows.len() + 135].into_iter().all(|room| {
+        let (number, count, out) = read(room);
+        number == 0 && count * 136 == rows.len() && out.starts_with(rows) && out[rows.len()..].iter().all(|b| *b == 0x5A)
+    });
+    let short = |room: usize| {
+        let (number, count, out) = read(room);
+        number == 15 && count == 0 && out.iter().all(|b| *b == 0x5A)
+    };
+    whole && (rows.is_empty() || (short(rows.len() - 1) && short(rows.len() - 136)))
+}
+
+/// Whether gpt_file_read_partitions refuses by this number and stores nothing, with no room and with room for one row.
+fn gives_none(img: &[u8], h: Header, b: u64, number: u32) -> bool {
+    [0, 136].into_iter().all(|room| {
+        let mut out = [0x5A; 136];
+        let r = unsafe { gpt_file_read_partitions(img.as_ptr(), img.len(), h, b, out.as_mut_ptr(), room) };
+        r.number == number && r.value == 0 && out == [0x5A; 136]
+    })
+}
+
+/// The same values as the original's read_array gives, through the three calls by slot, and then through gpt_file_read_partitions. Where they
+/// refuse, all four must refuse alike; an answer that they do not share is given as number 255.
 fn read_array(img: &[u8], b: u64, head: &Head) -> Answer {
     let h = header_of(head);
     let (p, n) = (img.as_ptr(), img.len());
@@ -68,9 +96,10 @@ fn read_array(img: &[u8], b: u64, head: &Head) -> Answer {
         values.extend(next.value.to_le_bytes());
         values.push(one.present as u8);
         values.extend(partition_bytes(&one.partition));
-        let same = next.number == count.number && one.number == count.number;
+        let same = next.number == count.number && one.number == count.number && gives_none(img, h, b, count.number);
         return Answer { number: if same { count.number } else { 255 }, values };
     }
+    let mut rows = Vec::new();
     let mut after = 0;
     loop {
         let next = unsafe { gpt_next_partition(p, n, h, b, after) };
@@ -87,6 +116,11 @@ fn read_array(img: &[u8], b: u64, head: &Head) -> Answer {
         }
         values.extend(after.to_le_bytes());
         values.extend(partition_bytes(&one.partition));
+        rows.extend(u64::from(after).to_le_bytes());
+        rows.extend(partition_bytes(&one.partition));
+    }
+    if !gives_rows(img, h, b, &rows) {
+        return Answer { number: 255, values };
     }
     for slot in probes(h.num_parts) {
         let one = unsafe { gpt_read_partition(p, n, h, b, slot) };
