@@ -344,6 +344,11 @@ CARD_AT(gpt_sum, sum, 4);
    1, 3 (its start), 2. */
 gpt_sum gpt_partentry_checksum(const uint8_t *img, size_t img_len, gpt_header header, uint64_t b);
 
+/* The check sum of an entry array after one slot of it, from the sum before: sum was right while the slot held the 128 bytes of was, and now it
+   holds those of is; after bytes of the array follow the slot. The array itself is not read.
+   2 where was or is has another length, 3 where 128 and after pass 1,048,576. */
+gpt_sum gpt_slot_sum(uint32_t sum, const uint8_t *was, size_t was_len, const uint8_t *is, size_t is_len, size_t after);
+
 /* bytes: how many were stored; header: with its new sums. */
 typedef struct gpt_header_written {
     uint32_t number;

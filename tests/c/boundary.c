@@ -206,6 +206,16 @@ static void headers(void) {
     s = gpt_partentry_checksum(img, 1000, h.header, BLOCK);
     SAME(s.number, CARD_SHORT);
     SAME(s.sum, 0);
+
+    memcpy(before, img, LEN);
+    gpt_entry_to_bytes(before + 4 * BLOCK, 128, some(40, 41));
+    s = gpt_slot_sum(h.header.crc32_parts, img + 4 * BLOCK, 128, before + 4 * BLOCK, 128, 16384 - 2 * BLOCK - 128);
+    SAME(s.number, 0);
+    SAME(s.sum, gpt_crc32(before + 2 * BLOCK, 16384));
+    s = gpt_slot_sum(1, img, 128, img, 127, 0);
+    SAME(s.number, CARD_SHORT);
+    SAME(s.sum, 0);
+    SAME(gpt_slot_sum(1, img, 128, img, 128, 1048449).number, CARD_OVERFLOW);
 }
 
 static void writes(void) {

@@ -14,6 +14,7 @@ ghost use Rattle.crc32.specs.Crc.{crc};
 ghost use Rattle.header.specs.Reading.{primaryRead, backupRead, backupBlock};
 ghost use Rattle.header.specs.Writing.{partsSum, primaryWritten, backupWritten};
 ghost use Rattle.header.specs.Meanings.{readMeans, writtenMeans, sumMeans};
+ghost use Rattle.slot_sum.specs.SlotSum.{slotSum};
 ghost use Rattle.card_c.specs.Exports.{told, zeroHeader, headerToC, writtenToC, sumToC, blockToC};
 
 #[repr(C)]
@@ -154,6 +155,14 @@ pub extern "C" fn gpt_partentry_checksum(img: &[u8], h: Header, b: u64) -> GptSu
     ensures { λ r. ⌜ r ≡ sumToC (partsSum (now (img .entry)) h b) ⌝ }
 {
     sum_to_c(h.partentry_checksum(img, b))
+}
+
+// The sum of an entry array after one slot, from the sum before it: 2, 3.
+#[no_mangle]
+pub extern "C" fn gpt_slot_sum<'a>(sum: u32, old: &'a [u8], new: &'a [u8], after: usize) -> GptSum
+    ensures { λ r. ⌜ r ≡ sumToC (slotSum sum (now (old .entry)) (now (new .entry)) after) ⌝ }
+{
+    sum_to_c(slot_sum::slot_sum(sum, old, new, after))
 }
 
 // Stores a primary header in its own block, with new sums: 1, 11, 3, 2, 3, 2.

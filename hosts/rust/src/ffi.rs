@@ -94,6 +94,7 @@ functions! {
     fn gpt_read_backup_header(img: *const u8, img_len: usize, b: u64) -> gpt_header_read;
     fn gpt_find_backup_lba(len: usize, b: u64) -> gpt_block;
     fn gpt_partentry_checksum(img: *const u8, img_len: usize, header: gpt_header, b: u64) -> gpt_sum;
+    fn gpt_slot_sum(sum: u32, was: *const u8, was_len: usize, is: *const u8, is_len: usize, after: usize) -> gpt_sum;
     fn gpt_write_primary(img: *mut u8, img_len: usize, header: gpt_header, b: u64) -> gpt_header_written;
     fn gpt_write_backup(img: *mut u8, img_len: usize, header: gpt_header, b: u64) -> gpt_header_written;
     fn gpt_settings_new(guid: gpt_guid) -> gpt_settings;
@@ -110,6 +111,7 @@ functions! {
     fn gpt_read_partition(img: *const u8, img_len: usize, header: gpt_header, b: u64, slot: u32) -> gpt_slot_read;
     fn gpt_count_partitions(img: *const u8, img_len: usize, header: gpt_header, b: u64) -> gpt_count;
     fn gpt_next_partition(img: *const u8, img_len: usize, header: gpt_header, b: u64, after: u32) -> gpt_next;
+    fn gpt_file_read_partitions(img: *const u8, img_len: usize, header: gpt_header, b: u64, out: *mut u8, out_len: usize) -> gpt_count;
     fn gpt_mbr_new(lb_size: u32) -> gpt_mbr;
     fn gpt_mbr_protective_record(lb_size: u32) -> gpt_part_record;
     fn gpt_mbr_from_bytes(buf: *const u8, buf_len: usize, b: u64) -> gpt_mbr_read;

@@ -155,6 +155,7 @@ extern "C" {
     pub fn gpt_read_backup_header(img: *const u8, n: usize, b: u64) -> HeaderRead;
     pub fn gpt_find_backup_lba(len: usize, b: u64) -> Wide;
     pub fn gpt_partentry_checksum(img: *const u8, n: usize, header: Header, b: u64) -> Narrow;
+    pub fn gpt_slot_sum(sum: u32, was: *const u8, was_len: usize, is: *const u8, is_len: usize, after: usize) -> Narrow;
     pub fn gpt_write_primary(img: *mut u8, n: usize, header: Header, b: u64) -> HeaderWritten;
     pub fn gpt_write_backup(img: *mut u8, n: usize, header: Header, b: u64) -> HeaderWritten;
     pub fn gpt_settings_new(guid: Guid) -> Settings;
