@@ -160,8 +160,8 @@ fn measure(job: fn(&mut dyn Side, &mut [u8]) -> Said, sides: &mut [&mut dyn Side
 fn main() {
     println!("microseconds a call, median of {SAMPLES} samples of {CALLS} calls; image in memory, {} KiB", IMAGE >> 10);
     println!(
-        "{:<32}{:>6}{:>5}{:>9}{:>13}{:>16}{:>9}{:>9}",
-        "job", "block", "used", "ours", "Rust, table", "Rust, crc32fast", "ratio", "ratio"
+        "{:<32}{:>6}{:>5}{:>9}{:>13}{:>17}{:>12}{:>16}",
+        "job", "block", "used", "ours", "Rust, table", "Rust, crc32fast", "table/ours", "crc32fast/ours"
     );
     for (name, job) in JOBS {
         for b in [512, 4096] {
@@ -174,7 +174,7 @@ fn main() {
                 must_agree(name, job, &mut sides, &img);
                 let [o, t, f] = measure(job, &mut sides, &mut img);
                 let us = 1000.0;
-                println!("{name:<32}{b:>6}{used:>5}{:>9.2}{:>13.2}{:>16.2}{:>9.2}{:>9.2}", o / us, t / us, f / us, t / o, f / o);
+                println!("{name:<32}{b:>6}{used:>5}{:>9.2}{:>13.2}{:>17.2}{:>12.2}{:>16.2}", o / us, t / us, f / us, t / o, f / o);
             }
         }
     }
