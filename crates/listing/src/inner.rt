@@ -24,26 +24,26 @@ pub fn used_count(img: &[u8], b: u64) -> u32
     partition::inner::count_present(img, array.0, 128)
 }
 
-// The first used slot after a slot; 0 where there is none.
-pub fn used_after(img: &[u8], b: u64, after: u32) -> u32
+// The first used slot after a slot; slot 0 where there is none.
+pub fn used_after(img: &[u8], b: u64, after: Slot) -> Slot
     requires { ⌜ roomCheck b (length (now img)) ≡ 0 ⌝ }
-    ensures { λ r. ⌜ r ≡ firstSlot (tables b (now (img .entry)) .front .array) 0 128 after ⌝ }
+    ensures { λ r. ⌜ r .0 ≡ firstSlot (tables b (now (img .entry)) .front .array) 0 128 (after .0) ⌝ }
 {
     let array = tables::inner::array_place(img.len(), b, false);
-    partition::inner::next_present(img, array.0, 128, after)
+    Slot(partition::inner::next_present(img, array.0, 128, after.0))
 }
 
-// Used slot k, counted from 0; 0 where k is not below the count.
-pub fn nth_slot(img: &[u8], b: u64, k: u32) -> u32
+// Used slot k, counted from 0; slot 0 where k is not below the count.
+pub fn nth_slot(img: &[u8], b: u64, k: u32) -> Slot
     requires { ⌜ roomCheck b (length (now img)) ≡ 0 ⌝ }
-    ensures { λ r. ⌜ r ≡ getD (presentSlots (tables b (now (img .entry)))) k 0 ⌝ }
+    ensures { λ r. ⌜ r .0 ≡ getD (presentSlots (tables b (now (img .entry)))) k 0 ⌝ }
 {
-    let mut after = 0;
+    let mut after = Slot(0);
     let mut i = 0;
     while i < k {
         let next = used_after(img, b, after);
-        if next == 0 {
-            return 0;
+        if next.0 == 0 {
+            return Slot(0);
         }
         after = next;
         i += 1;

@@ -40,11 +40,11 @@ pub fn next_used(img: &[u8], b: u64, after: Slot) -> NextPartition
     match checking::check(img, b) {
         Verdict::Refused(w) => NextPartition::Refused(w),
         Verdict::Accepted => {
-            let slot = inner::used_after(img, b, after.0);
-            if slot == 0 {
+            let slot = inner::used_after(img, b, after);
+            if slot.0 == 0 {
                 return NextPartition::NoMore;
             }
-            NextPartition::At(Slot(slot))
+            NextPartition::At(slot)
         }
     }
 }
@@ -74,14 +74,14 @@ pub fn nth_used(img: &[u8], b: u64, k: u32) -> UsedRead
         Verdict::Refused(w) => inner::none_used(Verdict::Refused(w)),
         Verdict::Accepted => {
             let slot = inner::nth_slot(img, b, k);
-            if slot == 0 {
+            if slot.0 == 0 {
                 return inner::none_used(Verdict::Accepted);
             }
             UsedRead {
                 verdict: Verdict::Accepted,
                 found: true,
-                slot: Slot(slot),
-                partition: inner::slot_entry(img, b, Slot(slot)),
+                slot,
+                partition: inner::slot_entry(img, b, slot),
             }
         }
     }

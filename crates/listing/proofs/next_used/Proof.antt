@@ -22,8 +22,8 @@ used-after-requires c κs =
 
 returns : tie.Need-returns
 returns c =
-    let a = c .before .before .before .before .before .before .args in
-    next-over (a .b) (a .img .now) (sym (c .before .before .before .before .check .ensures) ∙ ap verdictMeans (c .before .before .enum-told .given .1)) (a .after .0) (c .before .used-after .ensures) (c .if1 .taken)
+    let a = c .before .before .before .before .before .before .before .args in
+    next-over (a .b) (a .img .now) (sym (c .before .before .before .before .before .check .ensures) ∙ ap verdictMeans (c .before .before .before .enum-told .given .1)) (a .after .0) (c .before .before .used-after .ensures) (c .if1 .taken)
 
 returns-2 : tie.Need-returns-2
 returns-2 c =
@@ -32,8 +32,8 @@ returns-2 c =
 
 returns-3 : tie.Need-returns-3
 returns-3 c =
-    let a = c .before .before .before .before .before .before .args in
-    next-given (a .b) (a .img .now) (sym (c .before .before .before .before .check .ensures) ∙ ap verdictMeans (c .before .before .enum-told .given .1)) (a .after .0) (c .before .used-after .ensures) (c .if1 .left)
+    let a = c .before .before .before .before .before .before .before .args in
+    next-given (a .b) (a .img .now) (sym (c .before .before .before .before .before .check .ensures) ∙ ap verdictMeans (c .before .before .before .enum-told .given .1)) (a .after .0) (c .before .before .used-after .ensures) (c .if1 .left)
 
 pub next-used-spec : {M : Type 1} → statement M
 next-used-spec =

@@ -29,13 +29,13 @@ none-used-requires-2 c κs = search needs
 
 returns : tie.Need-returns
 returns c =
-    let a = c .before .before .before .before .before .before .before .args in
-    ap usedMeans (c .none-used2 .ensures) ∙ nth-over (a .b) (a .img .now) (a .k) (sym (c .before .before .before .before .before .check .ensures) ∙ ap verdictMeans (c .before .before .before .enum-told .given .1)) (c .before .before .nth-slot .ensures) (c .before .if1 .taken)
+    let a = c .before .before .before .before .before .before .before .before .args in
+    ap usedMeans (c .none-used2 .ensures) ∙ nth-over (a .b) (a .img .now) (a .k) (sym (c .before .before .before .before .before .before .check .ensures) ∙ ap verdictMeans (c .before .before .before .before .enum-told .given .1)) (c .before .before .before .nth-slot .ensures) (c .before .if1 .taken)
 
 slot-entry-requires : tie.Need-slot-entry-requires
 slot-entry-requires c κs =
-    let a = c .before .before .before .before .before .before .args in
-    (check-room (a .b) (a .img .now) (sym (c .before .before .before .before .check .ensures) ∙ ap verdictMeans (c .before .before .enum-told .given .1)), slot-good (a .b) (a .img .now) (a .k) (c .before .nth-slot .ensures) (c .if1 .left))
+    let a = c .before .before .before .before .before .before .before .args in
+    (check-room (a .b) (a .img .now) (sym (c .before .before .before .before .before .check .ensures) ∙ ap verdictMeans (c .before .before .before .enum-told .given .1)), slot-good (a .b) (a .img .now) (a .k) (c .before .before .nth-slot .ensures) (c .if1 .left))
 
 returns-2 : tie.Need-returns-2
 returns-2 c =
@@ -44,8 +44,8 @@ returns-2 c =
 
 returns-3 : tie.Need-returns-3
 returns-3 c =
-    let a = c .before .before .before .before .before .before .before .args in
-    nth-given (a .b) (a .img .now) (a .k) (sym (c .before .before .before .before .before .check .ensures) ∙ ap verdictMeans (c .before .before .before .enum-told .given .1)) (c .before .before .nth-slot .ensures) (c .before .if1 .left) (c .slot-entry .ensures)
+    let a = c .before .before .before .before .before .before .before .before .args in
+    nth-given (a .b) (a .img .now) (a .k) (sym (c .before .before .before .before .before .before .check .ensures) ∙ ap verdictMeans (c .before .before .before .before .enum-told .given .1)) (c .before .before .before .nth-slot .ensures) (c .before .if1 .left) (c .slot-entry .ensures)
 
 pub nth-used-spec : {M : Type 1} → statement M
 nth-used-spec =

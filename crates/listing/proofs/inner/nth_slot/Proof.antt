@@ -11,7 +11,7 @@ use Rattle.listing.proofs.inner.nth_slot.Statement.{statement}
 use Rattle.listing.proofs.inner.nth_slot.Tie as tie
 
 abbrev Inv-loop : tie.InvT-loop
-Inv-loop img b k after₀ i₀ after i = (i ≤ k) × (drop i (presentSlots (tables b img)) ≡ presentFrom (tables b img .front .array) 0 after (128 - after))
+Inv-loop img b k after₀ i₀ after i = (i ≤ k) × (drop i (presentSlots (tables b img)) ≡ presentFrom (tables b img .front .array) 0 (after .0) (128 - after .0))
 
 abbrev μ-loop : tie.MeasureT-loop
 μ-loop img b k after₀ i₀ after i = k - i
@@ -24,9 +24,9 @@ used-after-requires c κs = c .before .before .before .pre
 
 returns : tie.Need-returns Inv-loop μ-loop
 returns c =
-    let a = c .before .before .before .before .before .args in
-    let l = c .before .before .before .loop in
-    none-left (tables (a .b) (a .img .now) .front .array) (l .after) (c .before .used-after .ensures) (presentSlots (tables (a .b) (a .img .now))) (l .i) (a .k) (l .inv .0) (c .if1 .taken) (l .inv .1)
+    let a = c .before .before .before .before .before .before .args in
+    let l = c .before .before .before .before .loop in
+    none-left (tables (a .b) (a .img .now) .front .array) (l .after .0) (c .before .before .used-after .ensures) (presentSlots (tables (a .b) (a .img .now))) (l .i) (a .k) (l .inv .0) (c .if1 .taken) (l .inv .1)
 
 add-i : tie.Need-add-i Inv-loop μ-loop
 add-i c = omega arith
@@ -36,10 +36,10 @@ loop-less c = omega arith
 
 loop-again : tie.Need-loop-again Inv-loop μ-loop
 loop-again c =
-    let a = c .before .before .before .before .before .args in
-    let l = c .before .before .before .loop in (
+    let a = c .before .before .before .before .before .before .args in
+    let l = c .before .before .before .before .loop in (
       omega arith,
-      passed-one (tables (a .b) (a .img .now) .front .array) (l .after) (c .before .used-after .ensures) (presentSlots (tables (a .b) (a .img .now))) (l .i) (c .if1 .left) (l .inv .1),
+      passed-one (tables (a .b) (a .img .now) .front .array) (l .after .0) (c .before .before .used-after .ensures) (presentSlots (tables (a .b) (a .img .now))) (l .i) (c .if1 .left) (l .inv .1),
     )
 
 used-after-requires-2 : tie.Need-used-after-requires-2 Inv-loop μ-loop
@@ -50,7 +50,7 @@ returns-2 c =
     let a = c .before .before .before .before .args in
     let l = c .before .before .loop in
     let e : l .i ≡ a .k = omega arith in
-    first-left (tables (a .b) (a .img .now) .front .array) (l .after) (c .used-after2 .ensures) (presentSlots (tables (a .b) (a .img .now))) (a .k) (ap (λ (j : ℕ). drop j (presentSlots (tables (a .b) (a .img .now)))) (sym e) ∙ l .inv .1)
+    first-left (tables (a .b) (a .img .now) .front .array) (l .after .0) (c .used-after2 .ensures) (presentSlots (tables (a .b) (a .img .now))) (a .k) (ap (λ (j : ℕ). drop j (presentSlots (tables (a .b) (a .img .now)))) (sym e) ∙ l .inv .1)
 
 pub nth-slot-spec : {M : Type 1} → statement M
 nth-slot-spec =
