@@ -1,6 +1,6 @@
 """The card calls for Python, over libcard.so: lay, check, put, clear, write_payload, listing.
 
-An image is a bytearray. A call that is refused raises Refused, with document 01's number, and changes nothing.
+An image is a bytearray. A call that is refused raises Refused, with the number of the refusal (NUMBERS), and changes nothing.
 
 >>> import uuid
 >>> image = bytearray(68 * 512)
