@@ -175,7 +175,7 @@ squared n x (y ∷ ys) e c (suc k) h =
 pub powers-rule : (n x : ℕ) (xs : List ℕ) → suc (length xs) ≡ n → x ≡ steps 8 0x80000000 → T (squares x xs) → Powers n (x ∷ xs)
 powers-rule n x xs d e c = record { entry = λ k h. squared 8 x xs e c k (omega arith) }
 
--- ---- the loop that halves the bytes of zero
+-- ---- what halves the bytes of zero
 
 pub some-left : (k left : ℕ) → k ≤ 20 → left < 2 ^ (20 - k) → 0 < left → k < 20
 some-left k left h l p = below k left (20 - k) refl h l p

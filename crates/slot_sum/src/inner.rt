@@ -1,7 +1,8 @@
 // The sum after one slot, over a table that the caller lends: for this product's other crates. These are no public calls: they have `requires`.
 ghost use mathlib.Core.Path.{_≡_};
-ghost use Prim.Native.Nat.{ℕ, _*_, _%_, _^_, _<_};
-ghost use Rattle.crc32.specs.Crc.{step, steps};
+ghost use Prim.Native.Nat.{ℕ, _*_, _-_, _%_, _^_, _≤_, _<_};
+ghost use lib.ListN.{replicate};
+ghost use Rattle.crc32.specs.Crc.{step, steps, feed};
 ghost use Rattle.crc32.specs.Rows.{Rows};
 ghost use Rattle.slot_sum.specs.SlotSum.{sumAfter};
 ghost use Rattle.slot_sum.specs.Powers.{Powers};
@@ -70,31 +71,27 @@ fn carried(a: u32, r: u32) -> u32
 }
 
 // The register x after 2 ^ k bytes of zero, if what is left is odd.
-fn past_one(p: &[u32; 20], x: u32, left: usize, k: usize) -> u32
-    requires { ⌜ Powers 20 (now p) × (k < 20) ⌝ }
+fn past_one(x: u32, left: usize, k: usize) -> u32
+    requires { ⌜ k < 20 ⌝ }
     ensures { λ r. ⌜ r ≡ steps (8 * (left % 2 * 2 ^ k)) x ⌝ }
 {
     if left % 2 == 1 {
+        let p = powers();
         return carried(p[k], x);
     }
     x
 }
 
-// The register r after so many bytes of zero, which are halved at each step.
-fn past_zeros(r: u32, bytes: usize) -> u32
-    requires { ⌜ bytes < 2 ^ 20 ⌝ }
-    ensures { λ x. ⌜ x ≡ steps (8 * bytes) r ⌝ }
+// The register x after so many times 2 ^ k bytes of zero, which are halved at each step.
+fn past_zeros(x: u32, left: usize, k: usize) -> u32
+    requires { ⌜ (k ≤ 20) × (left < 2 ^ (20 - k)) ⌝ }
+    ensures { λ r. ⌜ r ≡ feed x (replicate (left * 2 ^ k) 0) ⌝ }
 {
-    let p = powers();
-    let mut x = r;
-    let mut left = bytes;
-    let mut k = 0;
-    while left > 0 {
-        x = past_one(&p, x, left, k);
-        left = left / 2;
-        k += 1;
+    if left == 0 {
+        return x;
     }
-    x
+    let y = past_one(x, left, k);
+    past_zeros(y, left / 2, k + 1)
 }
 
 // The sum of a list of bytes in which `old` became `new`, so many bytes before its end, from its sum before that.
@@ -111,5 +108,5 @@ pub fn sum_after<'a>(
 {
     let before = crc32::inner::sum(t, old);
     let behind = crc32::inner::sum(t, new);
-    sum ^ past_zeros(before ^ behind, after)
+    sum ^ past_zeros(before ^ behind, after, 0)
 }
