@@ -498,6 +498,15 @@ CARD_AT(gpt_record_bytes, bytes, 0);
 
 gpt_record_bytes gpt_mbr_record_to_bytes(gpt_part_record part_record);
 
+typedef struct gpt_mbr_bytes {
+    uint8_t bytes[512];
+} gpt_mbr_bytes;
+CARD_SIZE(gpt_mbr_bytes, 512);
+CARD_AT(gpt_mbr_bytes, bytes, 0);
+
+/* The MBR's bytes 0 to 511, as they stand on a card. */
+gpt_mbr_bytes gpt_mbr_to_bytes(gpt_mbr mbr);
+
 /* The record at a place from 0 to 3.
    18. */
 gpt_record_read gpt_mbr_record(gpt_mbr mbr, size_t place);

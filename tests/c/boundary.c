@@ -439,6 +439,8 @@ static void mbrs(void) {
     BYTES(room + 440, "card\x34\x12", 6);
     SAME(le(room + 446 + 12, 4), 69);
     BYTES(room + 510, "\x55\xAA\x77", 3);
+    gpt_mbr_bytes stored = gpt_mbr_to_bytes(m);
+    BYTES(stored.bytes, room, 512);
     gpt_mbr_read r = gpt_mbr_from_bytes(room, 512, BLOCK);
     SAME(r.number, 0);
     BYTES(&r.mbr, &m, 446);

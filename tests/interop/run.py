@@ -134,6 +134,10 @@ def others(folder):
     fresh(512, blocks)
     run("sfdisk", path, text="label: gpt\nfirst-lba: 34\nlast-lba: 2014\nstart=50, size=10\nstart=60, size=100\n")
     taken_over("a small card that sfdisk made", path, 512, [(1, 50, 59), (2, 60, 159)])
+    for size, count in ((512, blocks), (4096, 256)):
+        fresh(size, count)
+        run("fdisk", "-b", str(size), path, text="g\nn\n1\n40\n99\nn\n2\n100\n200\nw\n")
+        taken_over(f"a small card that fdisk made at {size}", path, size, [(1, 40, 99), (2, 100, 200)])
     for size in (512, 4096):
         fresh(size, blocks)
         env = {"PARTED_SECTOR_SIZE": str(size)}

@@ -9,7 +9,6 @@ const ROW: usize = 136;
 extern "C" {
     fn card_lay(img: *mut u8, n: usize, b: u64, guid: Guid) -> Narrow;
     fn card_put(img: *mut u8, n: usize, b: u64, slot: u32, partition: Partition) -> Narrow;
-    fn gpt_file_read_partitions(img: *const u8, n: usize, header: Header, b: u64, out: *mut u8, out_len: usize) -> Narrow;
 }
 
 fn guid(low: u32) -> Guid {

@@ -11,7 +11,7 @@ use mbr::SignatureRead;
 use units::Verdict;
 ghost use mathlib.Core.Path.{_≡_};
 ghost use Rattle.units.specs.Answer.{Ends};
-ghost use Rattle.mbr.specs.Format.{recordBytes, protective, fresh};
+ghost use Rattle.mbr.specs.Format.{recordBytes, mbrBytes, protective, fresh};
 ghost use Rattle.mbr.specs.Parsing.{recordParsed, mbrParsed, imageParsed, bytesRead};
 ghost use Rattle.mbr.specs.Changing.{recordTaken, recordSet};
 ghost use Rattle.mbr.specs.Storing.{wholeStored, tailStored, bytesStored};
@@ -64,6 +64,11 @@ pub struct GptSignature {
 #[repr(C)]
 pub struct GptRecordBytes {
     pub bytes: [u8; 16],
+}
+
+#[repr(C)]
+pub struct GptMbrBytes {
+    pub bytes: [u8; 512],
 }
 
 // What stands beside a refusal.
@@ -201,6 +206,16 @@ pub extern "C" fn gpt_mbr_record_to_bytes(p: PartRecord) -> GptRecordBytes
 {
     GptRecordBytes {
         bytes: p.to_bytes(),
+    }
+}
+
+// The MBR's 512 bytes, as they are stored.
+#[no_mangle]
+pub extern "C" fn gpt_mbr_to_bytes(m: ProtectiveMbr) -> GptMbrBytes
+    ensures { λ r. ⌜ r ≡ record { bytes = mbrBytes m } ⌝ }
+{
+    GptMbrBytes {
+        bytes: m.to_bytes(),
     }
 }
 

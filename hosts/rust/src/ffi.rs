@@ -71,6 +71,7 @@ structs! {
     gpt_mbr_read 516 { 0 number: u32, 4 mbr: gpt_mbr }
     gpt_record_read 20 { 0 number: u32, 4 part_record: gpt_part_record }
     gpt_record_bytes 16 { 0 bytes: [u8; 16] }
+    gpt_mbr_bytes 512 { 0 bytes: [u8; 512] }
     gpt_record_set 532 { 0 number: u32, 4 old: gpt_part_record, 20 mbr: gpt_mbr }
     gpt_bootcode_read 444 { 0 number: u32, 4 bootcode: [u8; 440] }
     gpt_bootcode 440 { 0 bytes: [u8; 440] }
@@ -118,6 +119,7 @@ functions! {
     fn gpt_mbr_from_image(img: *const u8, img_len: usize, b: u64) -> gpt_mbr_read;
     fn gpt_mbr_record_from_bytes(buf: *const u8, buf_len: usize) -> gpt_record_read;
     fn gpt_mbr_record_to_bytes(part_record: gpt_part_record) -> gpt_record_bytes;
+    fn gpt_mbr_to_bytes(mbr: gpt_mbr) -> gpt_mbr_bytes;
     fn gpt_mbr_record(mbr: gpt_mbr, place: usize) -> gpt_record_read;
     fn gpt_mbr_set_record(mbr: gpt_mbr, place: usize, part_record: gpt_part_record) -> gpt_record_set;
     fn gpt_mbr_overwrite(img: *mut u8, img_len: usize, mbr: gpt_mbr) -> gpt_stored;

@@ -18,7 +18,7 @@ pub const CLASSES: [(&str, &str); 13] = [
     ("E", "a lone surrogate in a name; the original reads FFFD, the unit is kept"),
     ("G", "a refused header write; the original's header in memory has the new sums, nothing is returned"),
     ("H", "summing an array of 2^63 bytes or more; the original panics, 2"),
-    ("I", "summing or zeroing more bytes than memory gives; the original would end the process and is not asked, 2, 3 or 7"),
+    ("I", "summing or zeroing more than 256 MiB, which memory may not give; the original would end the process and is not asked, 2, 3 or 7"),
 ];
 
 pub enum Original {
