@@ -1,6 +1,8 @@
 // What put and clear test, and the change that they make: 128 bytes of one slot in both arrays, under lay's headers with the GUID kept.
 use partition::Partition;
+use units::BytePlace;
 use units::Guid;
+use units::Lba;
 use units::Refusal;
 use units::Slot;
 use units::Verdict;
@@ -79,27 +81,28 @@ fn record_number(e: &[u8], slot: Slot, len: usize, b: u64) -> u32
     if units::inner::all_zero(e, 0, 16) {
         return 19;
     }
-    let first = units::inner::u64_at(e, 32);
-    let last = units::inner::u64_at(e, 40);
-    if last < first {
+    let first = Lba(units::inner::u64_at(e, 32));
+    let last = Lba(units::inner::u64_at(e, 40));
+    if last.0 < first.0 {
         return 20;
     }
     let low = tables::inner::first_usable(b);
     let high = tables::inner::last_usable(len, b);
-    if (first < low.0) | (high.0 < last) {
+    if (first.0 < low.0) | (high.0 < last.0) {
         return 21;
     }
     0
 }
 
 // The lowest entry but k, in the array at a place, that shares a block with a used entry that has the blocks from first to last, or 128.
-fn first_met(img: &[u8], at: usize, k: u32, first: u64, last: u64) -> u32
-    requires { ⌜ at + 16384 ≤ length (now img) ⌝ }
-    ensures { λ r. ⌜ ((e : List ℕ) → used e ≡ true → first ≡ firstOf e → last ≡ lastOf e → r ≡ meets (part (now (img .entry)) at 16384) k e) ⌝ }
+fn first_met(img: &[u8], at: BytePlace, k: u32, first: Lba, last: Lba) -> u32
+    requires { ⌜ at .0 + 16384 ≤ length (now img) ⌝ }
+    ensures { λ r. ⌜ ((e : List ℕ) → used e ≡ true → first .0 ≡ firstOf e → last .0 ≡ lastOf e → r ≡ meets (part (now (img .entry)) (at .0) 16384) k e) ⌝ }
 {
     let mut j = 0;
     while j < 128 {
-        let met = checking::inner::meets(img, at + 128 * (j as usize), first, last);
+        let place = checking::inner::entry_place(at, j as usize);
+        let met = checking::inner::meets(img, place, first, last);
         if (j != k) & met {
             return j;
         }
@@ -121,10 +124,10 @@ pub fn put_test<'a>(t: &'a [u32; 4096], img: &'a [u8], b: u64, slot: Slot, e: &'
     if wrong != 0 {
         return tables::inner::verdict_of(wrong);
     }
-    let first = units::inner::u64_at(e, 32);
-    let last = units::inner::u64_at(e, 40);
+    let first = Lba(units::inner::u64_at(e, 32));
+    let last = Lba(units::inner::u64_at(e, 40));
     let array = tables::inner::array_place(img.len(), b, false);
-    let j = first_met(img, array.0, units::inner::array_place(slot), first, last);
+    let j = first_met(img, array, units::inner::array_place(slot), first, last);
     if j < 128 {
         return Verdict::Refused(Refusal::Overlap(units::inner::slot_at(j)));
     }

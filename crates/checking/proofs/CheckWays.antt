@@ -40,6 +40,10 @@ pub entry-part : (xs : List ℕ) (at k : ℕ) → k < 128 → entry (part xs at 
 unfolding entry
 entry-part xs at k h = part-part xs at 16384 (128 * k) 128 (omega arith)
 
+-- by the place where it stands
+pub entry-at : (xs : List ℕ) (at k : ℕ) {p : ℕ} → k < 128 → p ≡ at + 128 * k → entry (part xs at 16384) k ≡ part xs p 128
+entry-at xs at k h e = entry-part xs at k h ∙ ap (λ (o : ℕ). part xs o 128) (sym e)
+
 -- the three things that are read of an entry
 pub used-part : (xs : List ℕ) (at : ℕ) → used (part xs at 128) ≡ not (allZero (part xs at 16))
 unfolding used

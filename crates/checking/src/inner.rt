@@ -1,15 +1,16 @@
 // The card check: 1, 8, 10; 4, 5, 16, 6 of each table; 17; 16 of the entries. The public call comes last; each `requires` before it is what a caller has tested.
 use header::Header;
 use units::BytePlace;
+use units::Lba;
 use units::Verdict;
 ghost use mathlib.Core.Path.{_≡_};
 ghost use mathlib.Core.Bool.{true, not, _&&_};
 ghost use mathlib.Core.List.{List};
-ghost use Prim.Native.Nat.{ℕ, _+_, _≤_, _<_};
+ghost use Prim.Native.Nat.{ℕ, _+_, _*_, _^_, _≤_, _<_};
 ghost use lib.Dec.{eqb};
 ghost use lib.ListN.{length};
 ghost use Rattle.units.specs.Answer.{pick};
-ghost use Rattle.units.specs.Bytes.{part, same};
+ghost use Rattle.units.specs.Bytes.{part, num, same};
 ghost use Rattle.units.specs.Meanings.{verdictMeans};
 ghost use Rattle.crc32.specs.Crc.{crc};
 ghost use Rattle.crc32.specs.Rows.{Rows};
@@ -48,11 +49,12 @@ fn laid_fields(h: Header, len: usize, b: u64, back: bool) -> bool
 }
 
 // Whether n bytes at one place are those at another.
-fn same_parts(img: &[u8], at: usize, other: usize, n: usize) -> bool
-    requires { ⌜ (at + n ≤ length (now img)) × (other + n ≤ length (now img)) ⌝ }
-    ensures { λ r. ⌜ r ≡ same (part (now (img .entry)) at n) (part (now (img .entry)) other n) ⌝ }
+fn same_parts(img: &[u8], at: BytePlace, other: BytePlace, n: usize) -> bool
+    requires { ⌜ (at .0 + n ≤ length (now img)) × (other .0 + n ≤ length (now img)) ⌝ }
+    ensures { λ r. ⌜ r ≡ same (part (now (img .entry)) (at .0) n) (part (now (img .entry)) (other .0) n) ⌝ }
 {
-    units::inner::same_at(img, at, &img[other..other + n])
+    let from = other.0;
+    units::inner::same_at(img, at.0, &img[from..from + n])
 }
 
 // The back array's sum: the front array's, where the two are the same.
@@ -97,27 +99,50 @@ fn copy_number<'a>(
     0
 }
 
-// Whether the entry at a place is all zero, or used and inside the usable blocks.
-fn entry_ok(img: &[u8], at: usize, first: u64, last: u64) -> bool
-    requires { ⌜ at + 128 ≤ length (now img) ⌝ }
-    ensures { λ r. ⌜ ((B n : ℕ) → first ≡ firstUsable B → last ≡ lastUsable B n → r ≡ okEntry B n (part (now (img .entry)) at 128)) ⌝ }
+// Where the entry at an array place stands, in the array at a byte place.
+pub fn entry_place(array: BytePlace, k: usize) -> BytePlace
+    requires { ⌜ (array .0 + 16384 < 2 ^ 64) × (k < 128) ⌝ }
+    ensures { λ r. ⌜ r .0 ≡ array .0 + 128 * k ⌝ }
 {
-    if units::inner::all_zero(img, at, 16) {
-        return units::inner::all_zero(img, at, 128);
+    BytePlace(array.0 + 128 * k)
+}
+
+// The blocks of the entry at a place.
+fn first_of(img: &[u8], at: BytePlace) -> Lba
+    requires { ⌜ at .0 + 128 ≤ length (now img) ⌝ }
+    ensures { λ r. ⌜ r .0 ≡ num (now (img .entry)) (at .0 + 32) 8 ⌝ }
+{
+    Lba(units::inner::u64_at(img, at.0 + 32))
+}
+
+fn last_of(img: &[u8], at: BytePlace) -> Lba
+    requires { ⌜ at .0 + 128 ≤ length (now img) ⌝ }
+    ensures { λ r. ⌜ r .0 ≡ num (now (img .entry)) (at .0 + 40) 8 ⌝ }
+{
+    Lba(units::inner::u64_at(img, at.0 + 40))
+}
+
+// Whether the entry at a place is all zero, or used and inside the usable blocks.
+fn entry_ok(img: &[u8], at: BytePlace, first: Lba, last: Lba) -> bool
+    requires { ⌜ at .0 + 128 ≤ length (now img) ⌝ }
+    ensures { λ r. ⌜ ((B n : ℕ) → first .0 ≡ firstUsable B → last .0 ≡ lastUsable B n → r ≡ okEntry B n (part (now (img .entry)) (at .0) 128)) ⌝ }
+{
+    if units::inner::all_zero(img, at.0, 16) {
+        return units::inner::all_zero(img, at.0, 128);
     }
-    let from = units::inner::u64_at(img, at + 32);
-    let to = units::inner::u64_at(img, at + 40);
-    (from <= to) & ((first <= from) & (to <= last))
+    let from = first_of(img, at);
+    let to = last_of(img, at);
+    (from.0 <= to.0) & ((first.0 <= from.0) & (to.0 <= last.0))
 }
 
 // The same of each of the 128 entries.
-fn each_ok(img: &[u8], at: BytePlace, first: u64, last: u64) -> bool
+fn each_ok(img: &[u8], at: BytePlace, first: Lba, last: Lba) -> bool
     requires { ⌜ at .0 + 16384 ≤ length (now img) ⌝ }
-    ensures { λ r. ⌜ ((B n : ℕ) → first ≡ firstUsable B → last ≡ lastUsable B n → r ≡ all 128 (λ (k : ℕ). okEntry B n (entry (part (now (img .entry)) (at .0) 16384) k))) ⌝ }
+    ensures { λ r. ⌜ ((B n : ℕ) → first .0 ≡ firstUsable B → last .0 ≡ lastUsable B n → r ≡ all 128 (λ (k : ℕ). okEntry B n (entry (part (now (img .entry)) (at .0) 16384) k))) ⌝ }
 {
     let mut k = 0;
     while k < 128 {
-        if !entry_ok(img, at.0 + 128 * k, first, last) {
+        if !entry_ok(img, entry_place(at, k), first, last) {
             return false;
         }
         k += 1;
@@ -126,16 +151,16 @@ fn each_ok(img: &[u8], at: BytePlace, first: u64, last: u64) -> bool
 }
 
 // Whether the entry at a place is used and shares a block with a used entry that has the blocks from first to last.
-pub fn meets(img: &[u8], at: usize, first: u64, last: u64) -> bool
-    requires { ⌜ at + 128 ≤ length (now img) ⌝ }
-    ensures { λ r. ⌜ ((e : List ℕ) → used e ≡ true → first ≡ firstOf e → last ≡ lastOf e → r ≡ clash e (part (now (img .entry)) at 128)) ⌝ }
+pub fn meets(img: &[u8], at: BytePlace, first: Lba, last: Lba) -> bool
+    requires { ⌜ at .0 + 128 ≤ length (now img) ⌝ }
+    ensures { λ r. ⌜ ((e : List ℕ) → used e ≡ true → first .0 ≡ firstOf e → last .0 ≡ lastOf e → r ≡ clash e (part (now (img .entry)) (at .0) 128)) ⌝ }
 {
-    if units::inner::all_zero(img, at, 16) {
+    if units::inner::all_zero(img, at.0, 16) {
         return false;
     }
-    let from = units::inner::u64_at(img, at + 32);
-    let to = units::inner::u64_at(img, at + 40);
-    (first <= to) & (from <= last)
+    let from = first_of(img, at);
+    let to = last_of(img, at);
+    (first.0 <= to.0) & (from.0 <= last.0)
 }
 
 // Whether entry k shares no block with an entry before it.
@@ -143,15 +168,15 @@ fn apart_below(img: &[u8], at: BytePlace, k: usize) -> bool
     requires { ⌜ (at .0 + 16384 ≤ length (now img)) × (k < 128) ⌝ }
     ensures { λ r. ⌜ r ≡ all k (λ (j : ℕ). not (clash (entry (part (now (img .entry)) (at .0) 16384) k) (entry (part (now (img .entry)) (at .0) 16384) j))) ⌝ }
 {
-    let own = at.0 + 128 * k;
-    if units::inner::all_zero(img, own, 16) {
+    let own = entry_place(at, k);
+    if units::inner::all_zero(img, own.0, 16) {
         return true;
     }
-    let first = units::inner::u64_at(img, own + 32);
-    let last = units::inner::u64_at(img, own + 40);
+    let first = first_of(img, own);
+    let last = last_of(img, own);
     let mut j = 0;
     while j < k {
-        if meets(img, at.0 + 128 * j, first, last) {
+        if meets(img, entry_place(at, j), first, last) {
             return false;
         }
         j += 1;
@@ -160,35 +185,39 @@ fn apart_below(img: &[u8], at: BytePlace, k: usize) -> bool
 }
 
 // Whether the entry at a place is unused, or starts after block top.
-fn starts_after(img: &[u8], own: usize, top: u64) -> bool
-    requires { ⌜ own + 128 ≤ length (now img) ⌝ }
-    ensures { λ r. ⌜ r ≡ startsAfter (part (now (img .entry)) own 128) top ⌝ }
+fn starts_after(img: &[u8], own: BytePlace, top: Lba) -> bool
+    requires { ⌜ own .0 + 128 ≤ length (now img) ⌝ }
+    ensures { λ r. ⌜ r ≡ startsAfter (part (now (img .entry)) (own .0) 128) (top .0) ⌝ }
 {
-    if units::inner::all_zero(img, own, 16) {
+    if units::inner::all_zero(img, own.0, 16) {
         return true;
     }
-    top < units::inner::u64_at(img, own + 32)
+    let first = first_of(img, own);
+    top.0 < first.0
 }
 
 // The greater of block top and the last block of the entry at a place, if it is used.
-fn greatest_last(img: &[u8], own: usize, top: u64) -> u64
-    requires { ⌜ own + 128 ≤ length (now img) ⌝ }
-    ensures { λ r. ⌜ r ≡ greatestLast (part (now (img .entry)) own 128) top ⌝ }
+fn greatest_last(img: &[u8], own: BytePlace, top: Lba) -> Lba
+    requires { ⌜ own .0 + 128 ≤ length (now img) ⌝ }
+    ensures { λ r. ⌜ r .0 ≡ greatestLast (part (now (img .entry)) (own .0) 128) (top .0) ⌝ }
 {
-    if units::inner::all_zero(img, own, 16) {
+    if units::inner::all_zero(img, own.0, 16) {
         return top;
     }
-    let last = units::inner::u64_at(img, own + 40);
-    if top < last { last } else { top }
+    let last = last_of(img, own);
+    if top.0 < last.0 {
+        return last;
+    }
+    top
 }
 
 // The same as `apart_below`, where no entry before entry k ends after block top: only an entry that starts at top or before needs to be compared.
-fn apart_from(img: &[u8], at: BytePlace, k: usize, top: u64) -> bool
+fn apart_from(img: &[u8], at: BytePlace, k: usize, top: Lba) -> bool
     requires { ⌜ (at .0 + 16384 ≤ length (now img)) × (k < 128) ⌝ }
-    requires { ⌜ Below (part (now img) (at .0) 16384) k top ⌝ }
+    requires { ⌜ Below (part (now img) (at .0) 16384) k (top .0) ⌝ }
     ensures { λ r. ⌜ r ≡ all k (λ (j : ℕ). not (clash (entry (part (now (img .entry)) (at .0) 16384) k) (entry (part (now (img .entry)) (at .0) 16384) j))) ⌝ }
 {
-    if starts_after(img, at.0 + 128 * k, top) {
+    if starts_after(img, entry_place(at, k), top) {
         return true;
     }
     apart_below(img, at, k)
@@ -199,13 +228,13 @@ fn all_apart(img: &[u8], at: BytePlace) -> bool
     requires { ⌜ at .0 + 16384 ≤ length (now img) ⌝ }
     ensures { λ r. ⌜ r ≡ all 128 (λ (j : ℕ). all 128 (λ (k : ℕ). pick (eqb j k) true (not (clash (entry (part (now (img .entry)) (at .0) 16384) j) (entry (part (now (img .entry)) (at .0) 16384) k))))) ⌝ }
 {
-    let mut top = 0;
+    let mut top = Lba(0);
     let mut k = 0;
     while k < 128 {
         if !apart_from(img, at, k, top) {
             return false;
         }
-        top = greatest_last(img, at.0 + 128 * k, top);
+        top = greatest_last(img, entry_place(at, k), top);
         k += 1;
     }
     true
@@ -218,7 +247,7 @@ fn entries_ok(img: &[u8], at: BytePlace, b: u64) -> bool
 {
     let first = tables::inner::first_usable(b);
     let last = tables::inner::last_usable(img.len(), b);
-    if !each_ok(img, at, first.0, last.0) {
+    if !each_ok(img, at, first, last) {
         return false;
     }
     all_apart(img, at)
@@ -237,7 +266,7 @@ fn pair_number(
     requires { ⌜ (front .0 + 92 ≤ length (now img)) × (back .0 + 92 ≤ length (now img)) ⌝ }
     ensures { λ r. ⌜ r ≡ orElse (when (not (same (part (now (img .entry)) (front .0 + 56) 16) (part (now (img .entry)) (back .0 + 56) 16) && agree)) 17) (when (not (entriesOk b (length (now (img .entry))) (part (now (img .entry)) (array .0) 16384))) 16) ⌝ }
 {
-    if !(same_parts(img, front.0 + 56, back.0 + 56, 16) & agree) {
+    if !(same_parts(img, BytePlace(front.0 + 56), BytePlace(back.0 + 56), 16) & agree) {
         return 17;
     }
     if !entries_ok(img, array, b) {
@@ -257,7 +286,7 @@ fn tables_number<'a>(t: &'a [u32; 4096], img: &'a [u8], b: u64) -> u32
     let back = tables::inner::header_place(len, b, true);
     let array = tables::inner::array_place(len, b, false);
     let other = tables::inner::array_place(len, b, true);
-    let agree = same_parts(img, array.0, other.0, 16384);
+    let agree = same_parts(img, array, other, 16384);
     let sum = tables::inner::array_sum(t, img, array);
     let front_found = copy_number(t, img, front, b, false, sum);
     if front_found != 0 {

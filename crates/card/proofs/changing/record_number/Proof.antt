@@ -31,12 +31,15 @@ u64-at-requires-2 c κs = search needs
 returns-3 : tie.Need-returns-3
 unfolding recordCheck
 returns-3 c =
-    let a = c .before .before .before .before .before .before .before .before .args in
-    record-20 (a .b) (a .len) (a .slot .0) (a .e .now) (c .before .before .before .before .before .before .bad-slot .ensures) (c .before .before .before .before .before .if1 .left) (c .before .before .before .before .all-zero .ensures) (c .before .before .before .if2 .left)
-    (c .before .before .u64-at .ensures) (c .before .u64-at2 .ensures) (c .if3 .taken)
+    let read = c .before .before .before in
+    let used = read .before .before in
+    let slot = used .before .before in
+    let a = slot .before .before .before .args in
+    record-20 (a .b) (a .len) (a .slot .0) (a .e .now) (slot .before .bad-slot .ensures) (slot .if1 .left) (used .before .all-zero .ensures) (used .if2 .left)
+    (read .before .u64-at .ensures) (read .u64-at2 .ensures) (c .if3 .taken)
 
 first-usable-requires : tie.Need-first-usable-requires
-first-usable-requires c κs = let r = room-ok _ _ (c .before .before .before .before .before .before .before .before .pre .0) in omega (arith, r .least)
+first-usable-requires c κs = let r = room-ok _ _ (c .before .before .before .before .before .before .before .before .before .before .pre .0) in omega (arith, r .least)
 
 last-usable-requires : tie.Need-last-usable-requires
 last-usable-requires c κs = search needs
@@ -44,24 +47,24 @@ last-usable-requires c κs = search needs
 returns-4 : tie.Need-returns-4
 unfolding recordCheck
 returns-4 c =
-    let first = c .before .before .before .before in
-    let read = first .before .before in
+    let first = c .before .before .before .before .before .before in
+    let read = first .before .before .before .before in
     let used = read .before .before in
     let slot = used .before .before in
     let a = slot .before .before .before .args in
     record-21 (a .b) (a .len) (a .slot .0) (a .e .now) (slot .before .bad-slot .ensures) (slot .if1 .left) (used .before .all-zero .ensures) (used .if2 .left)
-    (read .before .u64-at .ensures) (read .u64-at2 .ensures) (first .before .if3 .left) (ap (λ (l : Lba). l .0) (first .first-usable .ensures)) (ap (λ (l : Lba). l .0) (c .before .before .before .last-usable .ensures)) (c .if4 .taken)
+    (read .before .u64-at .ensures) (read .u64-at2 .ensures) (first .before .if3 .left) (ap (λ (l : Lba). l .0) (first .first-usable .ensures)) (ap (λ (l : Lba). l .0) (c .before .before .before .before .before .last-usable .ensures)) (c .if4 .taken)
 
 returns-5 : tie.Need-returns-5
 unfolding recordCheck
 returns-5 c =
-    let first = c .before .before .before .before in
-    let read = first .before .before in
+    let first = c .before .before .before .before .before .before in
+    let read = first .before .before .before .before in
     let used = read .before .before in
     let slot = used .before .before in
     let a = slot .before .before .before .args in
     record-0 (a .b) (a .len) (a .slot .0) (a .e .now) (slot .before .bad-slot .ensures) (slot .if1 .left) (used .before .all-zero .ensures) (used .if2 .left)
-    (read .before .u64-at .ensures) (read .u64-at2 .ensures) (first .before .if3 .left) (ap (λ (l : Lba). l .0) (first .first-usable .ensures)) (ap (λ (l : Lba). l .0) (c .before .before .before .last-usable .ensures)) (c .if4 .left)
+    (read .before .u64-at .ensures) (read .u64-at2 .ensures) (first .before .if3 .left) (ap (λ (l : Lba). l .0) (first .first-usable .ensures)) (ap (λ (l : Lba). l .0) (c .before .before .before .before .before .last-usable .ensures)) (c .if4 .left)
 
 pub record-number-spec : {M : Type 1} → statement M
 record-number-spec =

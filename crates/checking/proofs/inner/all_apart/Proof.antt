@@ -10,14 +10,14 @@ use Rattle.units.specs.Bytes.{part}
 use Rattle.tables.specs.Checks.{all}
 use Rattle.tables.specs.Entries.{entry, clash}
 use Rattle.checking.specs.Order.{greatestLast, Below}
-use Rattle.checking.proofs.CheckWays.{entry-part, all-fails, all-more, all-end, all-start, square}
+use Rattle.checking.proofs.CheckWays.{entry-at, all-fails, all-more, all-end, all-start, square}
 use Rattle.checking.proofs.OrderLaws.{below-none, below-more}
 use Rattle.checking.proofs.inner.all_apart.Statement.{statement}
 use Rattle.checking.proofs.inner.all_apart.Tie as tie
 
 abbrev Inv-loop : tie.InvT-loop
 Inv-loop img at top₀ k₀ top k =
-    (k ≤ 128) × (all k (λ (i : ℕ). all i (λ (j : ℕ). not (clash (entry (part img (at .0) 16384) i) (entry (part img (at .0) 16384) j)))) ≡ true) × Below (part img (at .0) 16384) k top
+    (k ≤ 128) × (all k (λ (i : ℕ). all i (λ (j : ℕ). not (clash (entry (part img (at .0) 16384) i) (entry (part img (at .0) 16384) j)))) ≡ true) × Below (part img (at .0) 16384) k (top .0)
 
 abbrev μ-loop : tie.MeasureT-loop
 μ-loop img at top₀ k₀ top k = 128 - k
@@ -34,14 +34,11 @@ returns c =
     sym (all-fails 128 _ (c .before .before .before .loop .k) (omega arith) (sym (c .before .apart-from .ensures) ∙ not-true _ (c .if1 .taken)))
     ∙ square (part (a .img .now) (a .at .0) 16384)
 
-mul-greatest-last : tie.Need-mul-greatest-last Inv-loop μ-loop
-mul-greatest-last c = search needs
-
-add-greatest-last : tie.Need-add-greatest-last Inv-loop μ-loop
-add-greatest-last c = search needs
+entry-place-requires : tie.Need-entry-place-requires Inv-loop μ-loop
+entry-place-requires c κs = search needs
 
 greatest-last-requires : tie.Need-greatest-last-requires Inv-loop μ-loop
-greatest-last-requires c κs = search needs
+greatest-last-requires c κs = omega (arith, c .entry-place .ensures)
 
 add-k : tie.Need-add-k Inv-loop μ-loop
 add-k c = search needs
@@ -53,8 +50,8 @@ loop-again : tie.Need-loop-again Inv-loop μ-loop
 loop-again c =
     let l = c .before .before .before .before .before .loop in
     let a = c .before .before .before .before .before .before .before .args in
-    let e = c .greatest-last .ensures ∙ ap (λ (e : List ℕ). greatestLast e (l .top)) (sym (entry-part (a .img .now) (a .at .0) (l .k) (omega arith))) in
-    (omega arith, all-more (l .k) _ (l .inv .1) (sym (c .before .before .before .apart-from .ensures) ∙ not-false _ (c .before .before .if1 .left)), below-more (part (a .img .now) (a .at .0) 16384) (l .k) (l .top) (l .inv .2) e)
+    let e = c .greatest-last .ensures ∙ ap (λ (e : List ℕ). greatestLast e (l .top .0)) (sym (entry-at (a .img .now) (a .at .0) (l .k) (omega arith) (c .before .entry-place .ensures))) in
+    (omega arith, all-more (l .k) _ (l .inv .1) (sym (c .before .before .before .apart-from .ensures) ∙ not-false _ (c .before .before .if1 .left)), below-more (part (a .img .now) (a .at .0) 16384) (l .k) (l .top .0) (l .inv .2) e)
 
 returns-2 : tie.Need-returns-2 Inv-loop μ-loop
 returns-2 c =
@@ -63,4 +60,17 @@ returns-2 c =
     all-end (l .k) 128 _ (omega arith) (omega arith) (l .inv .1) ∙ square (part (a .img .now) (a .at .0) 16384)
 
 pub all-apart-spec : {M : Type 1} → statement M
-all-apart-spec = tie.close (tie.spec Inv-loop μ-loop loop-holds apart-from-requires returns mul-greatest-last add-greatest-last greatest-last-requires add-k loop-less loop-again returns-2)
+all-apart-spec =
+    tie.close
+    (tie.spec
+    Inv-loop
+    μ-loop
+    loop-holds
+    apart-from-requires
+    returns
+    entry-place-requires
+    greatest-last-requires
+    add-k
+    loop-less
+    loop-again
+    returns-2)

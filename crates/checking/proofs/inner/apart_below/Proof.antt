@@ -1,61 +1,50 @@
 -- `checking::inner::apart_below` meets its contract. The invariant: entry k shares no block with those that were passed. Assumes nothing.
 use mathlib.Core.Path.{_≡_, sym, ap, _∙_}
 use mathlib.Core.Bool.{true, not}
-use Prim.Native.Nat.{ℕ, _-_, _≤_}
+use Prim.Native.Nat.{ℕ, _+_, _-_, _≤_}
 use native.Mathlib.Omega.{arith}
 use borrow.Author.Needs.{needs}
-use Rattle.units.specs.Bytes.{part}
+use Rattle.units.specs.Bytes.{part, num, allZero}
 use Rattle.tables.specs.Checks.{all}
 use Rattle.tables.specs.Entries.{entry, clash}
 use Rattle.tables.proofs.Orders.{all-of}
-use Rattle.checking.proofs.CheckWays.{entry-part, all-fails, all-more, all-end, all-start, clash-unused, own-used, own-first, own-last}
+use Rattle.checking.proofs.CheckWays.{entry-at, all-fails, all-more, all-end, all-start, clash-unused, own-used, own-first, own-last}
 use Rattle.checking.proofs.inner.apart_below.Statement.{statement}
 use Rattle.checking.proofs.inner.apart_below.Tie as tie
 
 abbrev Inv-loop : tie.InvT-loop
-Inv-loop img at k own first last j₀ j =
+Inv-loop img at k first last j₀ j =
     (j ≤ k) × (all j (λ (i : ℕ). not (clash (entry (part img (at .0) 16384) k) (entry (part img (at .0) 16384) i))) ≡ true)
 
 abbrev μ-loop : tie.MeasureT-loop
-μ-loop img at k own first last j₀ j = k - j
+μ-loop img at k first last j₀ j = k - j
 
-mul-own : tie.Need-mul-own Inv-loop μ-loop
-mul-own c = search needs
-
-add-own : tie.Need-add-own Inv-loop μ-loop
-add-own c = search needs
+entry-place-requires : tie.Need-entry-place-requires Inv-loop μ-loop
+entry-place-requires c κs = search needs
 
 all-zero-requires : tie.Need-all-zero-requires Inv-loop μ-loop
-all-zero-requires c κs = search needs
+all-zero-requires c κs = omega (arith, c .entry-place .ensures)
 
 returns : tie.Need-returns Inv-loop μ-loop
 returns c =
     let a = c .before .before .before .before .args in
-    sym (all-of (a .k) _ (λ j h. ap not (clash-unused _ _ (own-used (a .img .now) (a .at .0) (a .k) (omega arith) (c .before .all-zero .ensures) ∙ ap not (c .if1 .taken)))))
+    let z = c .before .all-zero .ensures ∙ ap (λ (o : ℕ). allZero (part (a .img .now) o 16)) (c .before .before .entry-place .ensures) in
+    sym (all-of (a .k) _ (λ j h. ap not (clash-unused _ _ (own-used (a .img .now) (a .at .0) (a .k) (omega arith) z ∙ ap not (c .if1 .taken)))))
 
-add-u64-at : tie.Need-add-u64-at Inv-loop μ-loop
-add-u64-at c = search needs
+first-of-requires : tie.Need-first-of-requires Inv-loop μ-loop
+first-of-requires c κs = omega (arith, c .before .before .entry-place .ensures)
 
-u64-at-requires : tie.Need-u64-at-requires Inv-loop μ-loop
-u64-at-requires c κs = search needs
-
-add-u64-at-2 : tie.Need-add-u64-at-2 Inv-loop μ-loop
-add-u64-at-2 c = search needs
-
-u64-at-requires-2 : tie.Need-u64-at-requires-2 Inv-loop μ-loop
-u64-at-requires-2 c κs = search needs
+last-of-requires : tie.Need-last-of-requires Inv-loop μ-loop
+last-of-requires c κs = omega (arith, c .before .before .before .entry-place .ensures)
 
 loop-holds : tie.Need-loop-holds Inv-loop μ-loop
 loop-holds c = (omega arith, all-start _)
 
-mul-meets : tie.Need-mul-meets Inv-loop μ-loop
-mul-meets c = search needs
-
-add-meets : tie.Need-add-meets Inv-loop μ-loop
-add-meets c = search needs
+entry-place-requires-2 : tie.Need-entry-place-requires-2 Inv-loop μ-loop
+entry-place-requires-2 c κs = search needs
 
 meets-requires : tie.Need-meets-requires Inv-loop μ-loop
-meets-requires c κs = search needs
+meets-requires c κs = omega (arith, c .entry-place2 .ensures)
 
 -- whether entry j shares a block with entry k, as the code finds it
 found : (c : tie.After-meets Inv-loop μ-loop) → let a = c .before .before .before .before .before .before .before .before .before .before .args in let j = c .before .before .before .loop .j in
@@ -63,11 +52,12 @@ found : (c : tie.After-meets Inv-loop μ-loop) → let a = c .before .before .be
 found c =
     let a = c .before .before .before .before .before .before .before .before .before .before .args in
     let j = c .before .before .before .loop .j in
+    let p = c .before .before .before .before .before .before .before .before .entry-place .ensures in
     c .meets .ensures (entry (part (a .img .now) (a .at .0) 16384) (a .k))
-    (own-used (a .img .now) (a .at .0) (a .k) (omega arith) (c .before .before .before .before .before .before .before .all-zero .ensures) ∙ ap not (c .before .before .before .before .before .before .if1 .left))
-    (own-first (a .img .now) (a .at .0) (a .k) (omega arith) (c .before .before .before .before .before .u64-at .ensures))
-    (own-last (a .img .now) (a .at .0) (a .k) (omega arith) (c .before .before .before .before .u64-at2 .ensures))
-    ∙ ap (clash (entry (part (a .img .now) (a .at .0) 16384) (a .k))) (sym (entry-part (a .img .now) (a .at .0) j (omega arith)))
+    (own-used (a .img .now) (a .at .0) (a .k) (omega arith) (c .before .before .before .before .before .before .before .all-zero .ensures ∙ ap (λ (o : ℕ). allZero (part (a .img .now) o 16)) p) ∙ ap not (c .before .before .before .before .before .before .if1 .left))
+    (own-first (a .img .now) (a .at .0) (a .k) (omega arith) (c .before .before .before .before .before .first-of .ensures ∙ ap (λ (o : ℕ). num (a .img .now) (o + 32) 8) p))
+    (own-last (a .img .now) (a .at .0) (a .k) (omega arith) (c .before .before .before .before .last-of .ensures ∙ ap (λ (o : ℕ). num (a .img .now) (o + 40) 8) p))
+    ∙ ap (clash (entry (part (a .img .now) (a .at .0) 16384) (a .k))) (sym (entry-at (a .img .now) (a .at .0) j (omega arith) (c .before .entry-place2 .ensures)))
 
 returns-2 : tie.Need-returns-2 Inv-loop μ-loop
 returns-2 c =
@@ -94,17 +84,13 @@ apart-below-spec =
     (tie.spec
     Inv-loop
     μ-loop
-    mul-own
-    add-own
+    entry-place-requires
     all-zero-requires
     returns
-    add-u64-at
-    u64-at-requires
-    add-u64-at-2
-    u64-at-requires-2
+    first-of-requires
+    last-of-requires
     loop-holds
-    mul-meets
-    add-meets
+    entry-place-requires-2
     meets-requires
     returns-2
     add-j

@@ -9,13 +9,13 @@ use Rattle.units.specs.Bytes.{part}
 use Rattle.tables.specs.Checks.{all}
 use Rattle.tables.specs.Places.{firstUsable, lastUsable}
 use Rattle.tables.specs.Entries.{entry, okEntry}
-use Rattle.checking.proofs.CheckWays.{entry-part, all-fails, all-more, all-end, all-start}
+use Rattle.checking.proofs.CheckWays.{entry-at, all-fails, all-more, all-end, all-start}
 use Rattle.checking.proofs.inner.each_ok.Statement.{statement}
 use Rattle.checking.proofs.inner.each_ok.Tie as tie
 
 abbrev Inv-loop : tie.InvT-loop
 Inv-loop img at first last k₀ k =
-    (k ≤ 128) × ((B n : ℕ) → first ≡ firstUsable B → last ≡ lastUsable B n → all k (λ (i : ℕ). okEntry B n (entry (part img (at .0) 16384) i)) ≡ true)
+    (k ≤ 128) × ((B n : ℕ) → first .0 ≡ firstUsable B → last .0 ≡ lastUsable B n → all k (λ (i : ℕ). okEntry B n (entry (part img (at .0) 16384) i)) ≡ true)
 
 abbrev μ-loop : tie.MeasureT-loop
 μ-loop img at first last k₀ k = 128 - k
@@ -23,20 +23,17 @@ abbrev μ-loop : tie.MeasureT-loop
 loop-holds : tie.Need-loop-holds Inv-loop μ-loop
 loop-holds c = (omega arith, λ B n f l. all-start _)
 
-mul-entry-ok : tie.Need-mul-entry-ok Inv-loop μ-loop
-mul-entry-ok c = search needs
-
-add-entry-ok : tie.Need-add-entry-ok Inv-loop μ-loop
-add-entry-ok c = search needs
+entry-place-requires : tie.Need-entry-place-requires Inv-loop μ-loop
+entry-place-requires c κs = search needs
 
 entry-ok-requires : tie.Need-entry-ok-requires Inv-loop μ-loop
-entry-ok-requires c κs = search needs
+entry-ok-requires c κs = omega (arith, c .entry-place .ensures)
 
 returns : tie.Need-returns Inv-loop μ-loop
 returns c B n f l =
     let a = c .before .before .before .before .before .before .args in
     let k = c .before .before .before .before .loop .k in
-    sym (all-fails 128 _ k (omega arith) (ap (okEntry B n) (entry-part (a .img .now) (a .at .0) k (omega arith)) ∙ sym (c .before .entry-ok .ensures B n f l) ∙ not-true _ (c .if1 .taken)))
+    sym (all-fails 128 _ k (omega arith) (ap (okEntry B n) (entry-at (a .img .now) (a .at .0) k (omega arith) (c .before .before .entry-place .ensures)) ∙ sym (c .before .entry-ok .ensures B n f l) ∙ not-true _ (c .if1 .taken)))
 
 add-k : tie.Need-add-k Inv-loop μ-loop
 add-k c = search needs
@@ -49,7 +46,7 @@ loop-again c =
     let a = c .before .before .before .before .before .before .args in
     let l = c .before .before .before .before .loop in (
       omega arith,
-      λ B n p q. all-more (l .k) _ (l .inv .1 B n p q) (ap (okEntry B n) (entry-part (a .img .now) (a .at .0) (l .k) (omega arith)) ∙ sym (c .before .entry-ok .ensures B n p q) ∙ not-false _ (c .if1 .left)),
+      λ B n p q. all-more (l .k) _ (l .inv .1 B n p q) (ap (okEntry B n) (entry-at (a .img .now) (a .at .0) (l .k) (omega arith) (c .before .before .entry-place .ensures)) ∙ sym (c .before .entry-ok .ensures B n p q) ∙ not-false _ (c .if1 .left)),
     )
 
 returns-2 : tie.Need-returns-2 Inv-loop μ-loop
@@ -62,8 +59,7 @@ each-ok-spec =
     Inv-loop
     μ-loop
     loop-holds
-    mul-entry-ok
-    add-entry-ok
+    entry-place-requires
     entry-ok-requires
     returns
     add-k

@@ -8,19 +8,23 @@ all-zero-requires : tie.Need-all-zero-requires
 all-zero-requires c κs = search needs
 
 returns : tie.Need-returns
-returns c = let a = c .before .before .before .args in greatest-unused (a .img .now) (a .own) (c .before .all-zero .ensures) (a .top) (c .if1 .taken)
+returns c = let a = c .before .before .before .args in greatest-unused (a .img .now) (a .own .0) (c .before .all-zero .ensures) (a .top .0) (c .if1 .taken)
 
-add-u64-at : tie.Need-add-u64-at
-add-u64-at c = search needs
-
-u64-at-requires : tie.Need-u64-at-requires
-u64-at-requires c κs = search needs
+last-of-requires : tie.Need-last-of-requires
+last-of-requires c κs = search needs
 
 returns-2 : tie.Need-returns-2
-returns-2 c = let a = c .before .before .before .before .before .args in greatest-last (a .img .now) (a .own) (c .before .before .before .all-zero .ensures) (a .top) (c .before .before .if1 .left) (c .before .u64-at .ensures) (c .if2 .taken)
+returns-2 c =
+    let i = c .before .before .before .before in
+    let a = i .before .before .before .args in
+    greatest-last (a .img .now) (a .own .0) (i .before .all-zero .ensures) (a .top .0) (i .if1 .left) (c .before .before .before .last-of .ensures) (c .if2 .taken)
 
 returns-3 : tie.Need-returns-3
-returns-3 c = let a = c .before .before .before .before .before .args in greatest-top (a .img .now) (a .own) (c .before .before .before .all-zero .ensures) (a .top) (c .before .before .if1 .left) (c .before .u64-at .ensures) (c .if2 .left)
+returns-3 c =
+    let i = c .before .before .before .before in
+    let a = i .before .before .before .args in
+    greatest-top (a .img .now) (a .own .0) (i .before .all-zero .ensures) (a .top .0) (i .if1 .left) (c .before .before .before .last-of .ensures) (c .if2 .left)
 
 pub greatest-last-spec : {M : Type 1} → statement M
-greatest-last-spec = tie.close (tie.spec all-zero-requires returns add-u64-at u64-at-requires returns-2 returns-3)
+greatest-last-spec =
+    tie.close (tie.spec all-zero-requires returns last-of-requires returns-2 returns-3)

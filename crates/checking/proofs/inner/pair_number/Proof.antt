@@ -4,11 +4,11 @@ use Rattle.checking.proofs.CheckWays.{pair-differ, pair-agree, entries-
 use Rattle.checking.proofs.inner.pair_number.Statement.{statement}
 use Rattle.checking.proofs.inner.pair_number.Tie as tie
 
-add-same-parts : tie.Need-add-same-parts
-add-same-parts c = search needs
+add-t8 : tie.Need-add-t8
+add-t8 c = search needs
 
-add-same-parts-2 : tie.Need-add-same-parts-2
-add-same-parts-2 c = search needs
+add-t10 : tie.Need-add-t10
+add-t10 c = search needs
 
 same-parts-requires : tie.Need-same-parts-requires
 same-parts-requires c κs = search needs
@@ -29,8 +29,8 @@ pub pair-number-spec : {M : Type 1} → statement M
 pair-number-spec =
     tie.close
     (tie.spec
-    add-same-parts
-    add-same-parts-2
+    add-t8
+    add-t10
     same-parts-requires
     returns
     entries-ok-requires

@@ -22,7 +22,7 @@ same-at-requires : tie.Need-same-at-requires
 same-at-requires c κs = search needs
 
 returns : tie.Need-returns
-returns c = let a = c .before .before .before .args in let e = lent-part (a .img .now) (a .other) (a .n) in c .same-at .ensures ∙ rw (e, length-part (a .img .now) (a .other) (a .n) (omega arith))
+returns c = let a = c .before .before .before .args in let e = lent-part (a .img .now) (a .other .0) (a .n) in c .same-at .ensures ∙ rw (e, length-part (a .img .now) (a .other .0) (a .n) (omega arith))
 
 pub same-parts-spec : {M : Type 1} → statement M
 same-parts-spec =
