@@ -1,115 +1,173 @@
-# The targets of the repository. `make test` is the gate: its last line is rt ci's `N passed, 0 failed`.
+# The targets of the repository. `make help` prints the comment above each of them up to its first full stop, so each target has one.
 PREFIX ?= /usr/local
 DESTDIR ?=
 VERSION = 0.1.0
+CFLAGS ?= -O2
+LDFLAGS ?=
+# The log that make gate-times reads.
+LOG ?= target/gate.log
+# The scripts take these from the environment.
+export CC CFLAGS LDFLAGS PREFIX DESTDIR
 
-.PHONY: demo sums test outside programs bench lib install install-test boundary example lister-test python rust documents interop differential differential-slips clean
+.PHONY: help demo sums test gate-times deps outside programs bench lib install uninstall install-test boundary example lister-test python rust documents interop differential differential-slips scripts-test boundary-valgrind rust-outside race model edits clean
+
+# Two runs of rt in one repository write the same files, so with -j, too, one target is made after the other.
+.NOTPARALLEL:
+
+# Lists the targets. Plain `make` does this too.
+help:
+	@awk '/^#/ { if (!said) said = substr($$0, 3); next } /^[a-z][a-z-]*:/ { name = $$1; sub(/:.*/, "", name); sub(/\.( .*)?$$/, "", said); printf "make %-19s%s\n", name, said } { said = "" }' Makefile
+	@scripts/kit
 
 # Lays a sample card in a file, with three slots, and lists it.
 demo:
-	@said=$$(rt check sample lister 2>&1 </dev/null) || { echo "$$said"; exit 1; }
+	@scripts/prove sample lister
 	@echo '$$ target/bin/sample > target/demo.img'
 	@target/bin/sample > target/demo.img
 	@echo '$$ target/bin/lister < target/demo.img'
 	@target/bin/lister < target/demo.img
 
-# Prints the check sums of published vectors and of what is piped in; a terminal counts as no input.
+# Prints the check sums of published vectors and of what is piped in. A terminal counts as no input.
 sums:
-	@said=$$(rt check sums 2>&1 </dev/null) || { echo "$$said"; exit 1; }
+	@scripts/prove sums
 	@if [ -t 0 ]; then target/bin/sums </dev/null; else target/bin/sums; fi
 
+# The gate: the layout, all proofs from nothing, the wrong programs tried, the programs run, the tests outside Rattle. Its last line is rt ci's `N passed, 0 failed`, which comes only when everything has passed (scripts/gate).
 test:
-	rt fmt --check
-	tests/outside.sh
-	rt ci
+	@scripts/gate
 
-# What of the tests outside Rattle this machine can run: see tests/outside.sh.
+# Says where the minutes of the gate went. It reads LOG, or else what the last `make test` kept.
+gate-times:
+	@python3 scripts/gate-times '$(LOG)'
+
+# Installs Debian's packages that the tests want, if you are root, and else says what is missing. No other target installs anything on the machine, but for install.
+deps:
+	@scripts/deps
+
+# Reads what rt said of the edits that must fail, and asks that each function that an edit changes was refused by itself.
+edits:
+	@tests/edits.sh
+
+# Runs what this machine can of the tests outside Rattle. See tests/outside.sh.
 outside:
 	tests/outside.sh
 
-# The programs that the tests outside Rattle and the documents run, proved side by side.
+# Proves and builds the programs that the tests outside Rattle and the documents run.
 programs:
-	rt check lister sample sums
+	@scripts/prove lister sample sums
 
-# The library for C and whatever calls C: target/lib/libcard.a and libcard.so; the header is include/card.h.
-lib: target/lib/libcard.so
+# Makes the library for C and whatever calls C, target/lib/libcard.a and libcard.so. The header is include/card.h.
+lib: target/lib/libcard.so.0
 	@echo "target/lib/libcard.a and target/lib/libcard.so; the header is include/card.h"
 
 target/lib/libcard.a: crates.txt $(shell find crates -name '*.rt' -o -name '*.antt')
-	rt staticlib card_c
+	@scripts/prove --staticlib card_c
 	@mkdir -p target/lib
 	cp target/staticlib/libcard_c.a target/lib/libcard.a
 
+# Every symbol is bound when the library is loaded, and what was written for that is then read-only.
 target/lib/libcard.so: target/lib/libcard.a
-	cc -shared -o target/lib/libcard.so -Wl,-soname,libcard.so.0 -Wl,--whole-archive target/lib/libcard.a -Wl,--no-whole-archive
+	$(CC) $(CFLAGS) -shared -o target/lib/libcard.so -Wl,-soname,libcard.so.0 -Wl,-z,now -Wl,-z,relro -Wl,--whole-archive target/lib/libcard.a -Wl,--no-whole-archive $(LDFLAGS)
 
-# Header, libraries, lister and a pkg-config file, below DESTDIR and PREFIX.
+# The name by which a program that was linked to the shared library asks for it.
+target/lib/libcard.so.0: target/lib/libcard.so
+	ln -sf libcard.so target/lib/libcard.so.0
+
+# Installs header, libraries, lister, a pkg-config file and the licences, below DESTDIR and PREFIX.
 install: lib
-	rt check lister
-	install -d $(DESTDIR)$(PREFIX)/include $(DESTDIR)$(PREFIX)/lib/pkgconfig $(DESTDIR)$(PREFIX)/bin
-	install -m 644 include/card.h $(DESTDIR)$(PREFIX)/include/card.h
-	install -m 644 target/lib/libcard.a $(DESTDIR)$(PREFIX)/lib/libcard.a
-	install -m 755 target/lib/libcard.so $(DESTDIR)$(PREFIX)/lib/libcard.so.0
-	ln -sf libcard.so.0 $(DESTDIR)$(PREFIX)/lib/libcard.so
-	install -m 755 target/bin/lister $(DESTDIR)$(PREFIX)/bin/card-lister
-	printf 'prefix=%s\nlibdir=$${prefix}/lib\nincludedir=$${prefix}/include\n\nName: card\nDescription: GPT cards, every function proved\nVersion: %s\nLibs: -L$${libdir} -lcard\nCflags: -I$${includedir}\n' '$(PREFIX)' '$(VERSION)' > $(DESTDIR)$(PREFIX)/lib/pkgconfig/card.pc
+	@scripts/prove lister
+	@VERSION=$(VERSION) scripts/install put
 
-# Installs into an empty folder, and uses what is there: a C program by either library, and the lister (tests/install).
+# Removes what install has put below DESTDIR and PREFIX. Folders that other software shares, such as lib, stay.
+uninstall:
+	@scripts/install remove
+
+# Installs into an empty folder, uses what is there, and removes it: a C program by either library, and the lister (tests/install).
 install-test:
 	tests/install/run.sh
 
 # Measures the check sum beside a plain byte table and zlib, the card calls, and both beside the Rust original (bench/beside), in one run each.
 bench: lib
-	@echo '#include <zlib.h>' | cc -E - >/dev/null 2>&1 || { echo "bench: zlib's header is missing; on Debian: apt-get install zlib1g-dev"; exit 1; }
-	rt staticlib crc32_c
-	cc -O2 -o target/bench-crc bench/crc.c target/staticlib/libcrc32_c.a -lz
-	cc -O2 -Iinclude -o target/bench-card bench/card.c target/lib/libcard.a target/staticlib/libcrc32_c.a -lpthread
+	@echo '#include <zlib.h>' | $(CC) $(CFLAGS) -E - >/dev/null 2>&1 || { echo "bench: zlib's header is missing; on Debian make deps installs it (zlib1g-dev)"; exit 1; }
+	@scripts/prove --staticlib crc32_c
+	$(CC) $(CFLAGS) -Iinclude -o target/bench-crc bench/crc.c target/staticlib/libcrc32_c.a target/lib/libcard.a $(LDFLAGS) -lz
+	$(CC) $(CFLAGS) -Iinclude -o target/bench-card bench/card.c target/lib/libcard.a $(LDFLAGS) -lpthread
 	target/bench-crc
 	target/bench-card
 	bench/beside/run.sh
 
-# Calls every function of include/card.h from C (tests/c).
+# Calls every function of include/card.h from C, and measures the stack that calls need (tests/c).
 boundary: lib
-	cc -std=c11 -Wall -Wextra -O2 -Iinclude -o target/boundary tests/c/boundary.c target/lib/libcard.a
+	tests/c/machine.sh
+	$(CC) -std=c11 -Wall -Wextra $(CFLAGS) -Iinclude -pthread -o target/stack tests/c/stack.c target/lib/libcard.a $(LDFLAGS)
+	target/stack
+	$(CC) -std=c11 -Wall -Wextra $(CFLAGS) -Iinclude -o target/boundary tests/c/boundary.c target/lib/libcard.a $(LDFLAGS)
 	target/boundary
 
-# The stored cards of the gate are those of the independent maker.
+# Compares the stored cards of the gate with those of the independent maker.
 example:
+	@mkdir -p target
 	python3 tests/example/make_card.py lister | cmp - crates/lister/stdin
 	python3 tests/example/make_card.py sample | cmp - crates/sample/stdout
 	grep '^[0-9]*: digest of the image' crates/cases/stdout >target/digests
 	python3 tests/example/make_card.py sums | cmp - target/digests
 	@echo "two cards and $$(wc -l <target/digests) sums of cards are the independent maker's"
 
-# The lister on seventeen inputs: cards of the independent maker, and what it refuses.
+# Runs the lister, sums and sample: seventeen cards, and input, output and arguments that fail.
 lister-test:
-	rt check lister
+	@scripts/prove lister sample sums
 	python3 tests/example/lister.py
 
-# The example in the Python module's own text.
+# Runs the example in the Python module's own text, and the module's tests (tests/python).
 python: lib
 	python3 hosts/python/card.py
+	python3 tests/python/test_card.py
 
-# The tests of the Rust crate and of the example in its text; cargo asks no registry.
-rust: lib
+# Runs the tests of the Rust crate and of the example in its text. Cargo asks no registry.
+rust: lib rust-outside
 	@cd hosts/rust && CARD_LIB_DIR=../../target/lib CARGO_TARGET_DIR=../../target/rust cargo test --offline >../../target/rust.log 2>&1 || { cat ../../target/rust.log; exit 1; }
+	@! grep 'skipped: ' target/rust.log
 	@awk '/^test result: ok/ { n += $$4 } END { print "rust: " n + 0 " tests ok"; exit n == 0 }' target/rust.log
 
-# Cards beside sgdisk, sfdisk, fdisk and parted (tests/interop).
+# Lays cards beside sgdisk, sfdisk, fdisk and parted (tests/interop).
 interop: lib
 	python3 tests/interop/run.py
 
-# The port beside the Rust original (tests/differential). Variables: GPT_SRC (where the original is), SEED, CASES.
+# Runs the port beside the Rust original (tests/differential). Variables: GPT_SRC (where the original is), SEED, CASES.
 differential:
 	@tests/differential/run.sh run
 
-# How soon that run catches slips put into the port's answers.
+# Says how soon that run catches slips put into the port's answers.
 differential-slips:
 	@tests/differential/run.sh slips
 
-# Every command that the documents give: run, and what it prints compared, or accounted for (tests/documents.py).
+# Runs every command that the documents give and compares what it prints, or has it accounted for (tests/documents.py).
 documents: lib
 	python3 tests/documents.py
 
+# Tries the scripts of the gate and of this file, with a stand-in for rt (tests/scripts).
+scripts-test:
+	@tests/scripts/run.sh
+
+# Makes every call from C again, under valgrind: no call makes a decision by a byte that nothing was stored in.
+boundary-valgrind: lib
+	$(CC) -std=c11 -g -O1 -Iinclude -o target/boundary-valgrind tests/c/boundary.c target/lib/libcard.a $(LDFLAGS)
+	valgrind -q --error-exitcode=1 target/boundary-valgrind
+
+# Runs the Rust crate's tests in a copy of it outside the repository.
+rust-outside: lib
+	tests/install/outside-rust.sh
+
+# Makes calls while another thread writes the image, in C and in Python, for 10 seconds each (tests/race).
+race: lib
+	$(CC) -std=c11 -Wall -Wextra $(CFLAGS) -Iinclude -pthread -o target/race tests/race/race.c target/lib/libcard.a $(LDFLAGS)
+	target/race 10
+	python3 tests/race/race.py 10
+
+# Compares every call of the library, its answers and every lent byte, with a model that was written from the documents alone (tests/model). Variables: SEED, SECONDS.
+model: lib
+	python3 tests/model/run.py $(if $(SEED),--seed $(SEED)) --seconds $(or $(SECONDS),30)
+
+# Removes all that was built and proved.
 clean:
 	rm -rf target

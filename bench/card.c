@@ -8,8 +8,6 @@
 #include <time.h>
 #include "card.h"
 
-uint32_t rt_crc32(const uint8_t *p, size_t n);
-
 enum { SAMPLES = 301, CALLS = 16, ARRAY = 16384, PAYLOAD = 4096, STACK = 1 << 20 };
 
 static uint8_t *img;
@@ -47,7 +45,7 @@ static void must(uint32_t number, const char *what) {
     }
 }
 
-static uint64_t do_sum(void) { return rt_crc32(img + 2 * block, ARRAY); }
+static uint64_t do_sum(void) { return gpt_crc32(img + 2 * block, ARRAY); }
 static uint64_t do_check(void) { return card_check(img, len, block).number; }
 static uint64_t do_put(void) { return card_put(img, len, block, used_slots, record(used_slots)).number; }
 static uint64_t do_clear(void) { return card_clear(img, len, block, 128).number; }

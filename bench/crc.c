@@ -6,8 +6,8 @@
 #include <string.h>
 #include <time.h>
 #include <zlib.h>
+#include "card.h"
 
-uint32_t rt_crc32(const uint8_t *p, size_t n);
 uint32_t rt_header_sum(const uint8_t *p, size_t n);
 uint32_t rt_header_sums(const uint8_t *p, size_t n, uint32_t times);
 
@@ -102,11 +102,11 @@ static int differs(const char *what, size_t n, uint32_t ours, uint32_t theirs) {
 
 // All lengths to 2000 at three places, headers, and the published check value.
 static int compare(const uint8_t *p) {
-    int bad = differs("check value", 9, rt_crc32((const uint8_t *)"123456789", 9), 0xCBF43926u);
+    int bad = differs("check value", 9, gpt_crc32((const uint8_t *)"123456789", 9), 0xCBF43926u);
     for (size_t n = 0; n <= 2000; n++) {
         for (size_t o = 0; o < 3; o++) {
-            bad |= differs("crc32 and plain table", n, rt_crc32(p + o, n), plain(p + o, n));
-            bad |= differs("crc32 and zlib", n, rt_crc32(p + o, n), zlib_sum(p + o, n));
+            bad |= differs("crc32 and plain table", n, gpt_crc32(p + o, n), plain(p + o, n));
+            bad |= differs("crc32 and zlib", n, gpt_crc32(p + o, n), zlib_sum(p + o, n));
         }
         bad |= differs("header_sum", n, rt_header_sum(p + n, n), n < HEADER ? 0 : plain_header(p + n, n));
     }
@@ -129,7 +129,7 @@ int main(void) {
     if (compare(p)) return 1;
     printf("all answers equal, lengths 0 to 2000\n");
     printf("%-10s %8s  %-25s %-25s %-25s  speed\n", "sum", "bytes", "ours", "plain byte table", "zlib");
-    const sum_fn slices[3] = {rt_crc32, plain, zlib_sum};
+    const sum_fn slices[3] = {gpt_crc32, plain, zlib_sum};
     const sum_fn headers[3] = {rt_header_sum, plain_header, zlib_header};
     const size_t sizes[] = {4, 92, 512, 4096, 16384, ROOM};
     double t[3];

@@ -7,12 +7,20 @@
    What a caller owes:
    - A lent slice is a pointer and then a length in bytes. The pointer points to so many bytes and is never null, also where the length is 0.
    - Two slices that are lent to one call do not overlap if the call writes one of them.
+   - While a call runs, nobody else writes a slice that is lent to it: no other thread, no other process and no device. A call that only reads
+     a slice lets others read it too.
    - A bool is 0 or 1.
+   - There are CARD_STACK bytes of stack below the caller's frame. A thread that makes calls is given 32 KiB or more.
+   An answer's bytes between its fields, and after the last one, hold nothing: compare answers field by field, never by memcmp.
    Nothing of this header is checked against the library's source: tests/c/boundary.c tries each call. The library keeps no state between calls.
 
    b is the block size, 512 or 4,096. Block numbers are called lba, slots count from 1, array places from 0. */
 #ifndef CARD_H
 #define CARD_H
+
+#if !defined(__x86_64__) || defined(__ILP32__)
+#error "libcard is for x86-64"
+#endif
 
 #include <stdbool.h>
 #include <stddef.h>
@@ -27,6 +35,9 @@ extern "C" {
 #define CARD_SIZE(type, size) CARD_ASSERT(sizeof(type) == (size), "the size of " #type)
 #define CARD_AT(type, field, place) CARD_ASSERT(offsetof(type, field) == (place), "the place of " #field " in " #type)
 
+/* The bytes of stack that a call needs at most; 16,384 of them are the check sum's table. tests/c/stack.c measures each call. */
+#define CARD_STACK 24576
+
 /* The numbers that a call comes back with. A call's tests run in the order in which its numbers are listed beside it; 1 is always first. */
 enum card_number {
     CARD_ACCEPTED = 0,                 /* the call did what was asked */
@@ -34,8 +45,8 @@ enum card_number {
     CARD_SHORT = 2,                    /* the bytes to read or write are not all inside the slice */
     CARD_OVERFLOW = 3,                 /* a product or sum passes its width */
     CARD_INVALID_GPT_SIGNATURE = 4,    /* the header does not begin with EFI PART */
-    CARD_INVALID_CRC32_CHECKSUM = 5,   /* the header's check sum is another */
-    CARD_PARTS_CRC = 6,                /* the entry array's check sum is another */
+    CARD_INVALID_CRC32_CHECKSUM = 5,   /* the header's check sum does not match */
+    CARD_PARTS_CRC = 6,                /* the entry array's check sum does not match */
     CARD_BAD_ENTRY_SIZE = 7,           /* an entry size that cannot be read or written */
     CARD_TO_SMALL_FOR_BACKUP = 8,      /* the image is shorter than three blocks */
     CARD_MISSING_BACKUP_LBA = 9,       /* the backup comes before the primary */
@@ -53,7 +64,22 @@ enum card_number {
     CARD_OUTSIDE_USABLE = 21,          /* a block outside the usable ones */
     CARD_OVERLAP = 22,                 /* a block that another slot has; the answer names the lowest such slot */
     CARD_EMPTY_SLOT = 23,              /* the slot is not used */
-    CARD_PAST_PARTITION = 24           /* the bytes pass the partition's end */
+    CARD_PAST_PARTITION = 24,          /* the bytes pass the partition's end */
+    /* No call gives a number from 25 on yet: each comes with its change request. */
+    CARD_TWIN_GUID = 25,               /* a partition GUID that another slot has; the answer names the lowest such slot */
+    CARD_WRONG_STAGE = 26,             /* the stage is not the next one of this update */
+    CARD_NO_GOOD_COPY = 27,            /* neither table of the card can be read */
+    CARD_RESERVED_FLAG = 28,           /* a flag that UEFI keeps reserved */
+    CARD_BAD_HEADER_SIZE = 29,         /* the header's stated size is below 92 or above the block size */
+    CARD_DIRTY_BLOCK = 30,             /* the header's block has other bytes than zero after the header */
+    CARD_WRONG_PLACE = 31,             /* the header names another block than the one it was read from */
+    CARD_WINDOW_LENGTH = 32,           /* a window is not as long as the card asks for */
+    CARD_TABLE_FULL = 33,              /* all 128 slots are used */
+    CARD_BAD_MARK = 34,                /* the map does not begin with the mark FBM */
+    CARD_UNKNOWN_VERSION = 35,         /* the label's version is not 1 */
+    CARD_BAD_DATE = 36,                /* the label's month or day does not exist */
+    CARD_TWO_DATES = 37,               /* the maps have two dates or two style revisions */
+    CARD_EMPTY_LIST = 38               /* no slot was named */
 };
 
 /* ---- what the format has */
@@ -187,7 +213,7 @@ CARD_AT(gpt_settings, primary, 48);
 
 /* ---- answers: the number first */
 
-/* slot: the one that 22 names, else 0. */
+/* slot: the one that 22 names (and 25, once a call gives it), else 0. */
 typedef struct card_answer {
     uint32_t number;
     uint32_t slot;

@@ -2,7 +2,7 @@
 """Keeps the documents true: every command that they give a reader is run, or it is said below why not.
 
 The documents are all .md files, and the texts in include/ and hosts/. In an .md file a block is fenced by ```, or indented by four spaces behind an empty line or a mark:
-- behind the mark `<!-- run -->` it is commands, which sh -e runs in the repository's root; the next block, behind the mark `<!-- prints -->`, is all that they print;
+- behind the mark `<!-- run -->` it is commands, which sh -e runs in the repository's root; the next block, behind the mark `<!-- prints -->`, is all that they print to standard output (how far a proof is goes to standard error);
 - a block of the language rust is, line by line, part of the example in hosts/rust/src/lib.rs, which make rust runs;
 - a block of the language text has no commands;
 - in any other block each line is a command, up to a #.
@@ -23,13 +23,18 @@ os.chdir(pathlib.Path(__file__).parent.parent)
 COMMANDS = """apt apt-get ar awk bash cargo cat cc cd chmod clang cmp cp curl dd diff docker dpkg echo env export fdisk gcc gdb git grep head hexdump install ld ls make mkdir mount mv nm nohup objdump
 parted pip pkg-config printf python3 rm rt rustc sed sfdisk sgdisk sh sudo tail tar time touch valgrind wget xxd""".split()
 NOT_RUN = {
+    "make": "make scripts-test runs it",
     "make test": "it is the gate, which runs this script",
+    "make gate-times": "make scripts-test runs it",
+    "make deps": "it would install packages; make scripts-test runs it, with a stand-in for apt-get",
     "make bench": "it takes minutes and a quiet machine, and needs zlib's header",
     "make clean": "it would delete what was built",
     "make differential-slips": "it takes minutes",
     "make install": "make install-test runs it, into an empty folder",
+    "make uninstall": "the same",
+    "make rust-outside": "make rust runs it",
     "cargo run --release --bin tape": "make differential runs the same program, which then compares and does not write",
-    "rt ci": "it is the last step of the gate",
+    "rt ci": "it is a part of the gate, and begins by removing what was proved",
     "rt check NAME": "NAME is any crate, and proving is for rt ci",
     "rt dev NAME": "the same",
     "rt dev NAME --allow-holes": "the same",
@@ -74,7 +79,7 @@ def inline(where, line):
     if line.count("`") % 2 or "``" in line:
         problem(where, "inline code that is not between two single backquotes on one line")
     for words in map(words_of, re.findall(r"`([^`]+)`", line)):
-        if len(words) > 1 and (words[0] in COMMANDS or re.match(r"(\.|target|tests|hosts)/", words[0])):
+        if len(words) > 1 and (words[0] in COMMANDS or re.match(r"(\.|target|tests|hosts|scripts)/", words[0])):
             account(where, words)
 
 
@@ -133,10 +138,10 @@ def marked(path):
 
 def run(where, commands, prints):
     environment = {name: value for name, value in os.environ.items() if name not in ("MAKEFLAGS", "MFLAGS", "MAKELEVEL")}
-    done = subprocess.run(["sh", "-ec", "\n".join(commands)], stdin=subprocess.DEVNULL, stdout=subprocess.PIPE, stderr=subprocess.STDOUT, text=True, env=environment)
+    done = subprocess.run(["sh", "-ec", "\n".join(commands)], stdin=subprocess.DEVNULL, capture_output=True, text=True, env=environment)
     said = done.stdout.splitlines()
     if done.returncode:
-        problem(where, f"the commands fail, with exit status {done.returncode}\n{done.stdout}")
+        problem(where, f"the commands fail, with exit status {done.returncode}\n{done.stdout}{done.stderr}")
     elif said != prints:
         problem(where, "\n".join(["the commands print another text", *difflib.unified_diff(prints, said, "the document", "printed", lineterm="")]))
 

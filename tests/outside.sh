@@ -1,10 +1,22 @@
 #!/bin/sh
-# The tests that need more than Rattle: each runs where this machine has what it needs, and is named as skipped where it has not or where its last line says `: skipped, `. A test that fails stops with its output.
+# The tests that need more than Rattle: each runs where this machine has what it needs, and is named as skipped where it has not or where its last line says `: skipped, `. A test that fails is shown with its output, and no further one is begun.
+#
+# tests/outside.sh runs all. First come the steps that make what the others use; then two lines of steps run side by side. Two runs of rt in one repository write the same files, so the steps that call rt stand in one line.
 cd "$(dirname "$0")/.." || exit 1
-mkdir -p target
 PATH=$PATH:/usr/sbin:/sbin
 ran=0
 skipped=0
+line=${1:-all}
+logs=target/outside
+
+# Which line a step stands in.
+line_of() {
+    case $1 in
+        programs | lib) echo first ;;
+        lister-test | demo | sums | install-test | documents) echo rt ;;
+        *) echo other ;;
+    esac
+}
 
 has() {
     for word in "$@"; do
@@ -12,34 +24,64 @@ has() {
     done
 }
 
-# run TARGET WHAT NEEDS..: make TARGET, if the commands NEEDS are there.
+# run TARGET WHAT NEEDS..: make TARGET, if it stands in this line and the commands NEEDS are there.
 run() {
     target=$1
     what=$2
     shift 2
+    [ "$(line_of "$target")" = "$line" ] || return
+    [ ! -e "$logs/failed" ] || exit 1
     if ! has "$@"; then
         echo "outside: $what: SKIPPED, this machine has no $missing"
         skipped=$((skipped + 1))
         return
     fi
-    if ! make -s "$target" </dev/null >target/outside.log 2>&1; then
-        cat target/outside.log
-        echo "outside: $what: FAILED (make $target)"
+    log=$logs/$target.log
+    began=$(date +%s)
+    make -s "$target" </dev/null >"$log" 2>&1
+    status=$?
+    took="$(($(date +%s) - began)) s"
+    if [ "$status" -ne 0 ]; then
+        echo "outside: $what: FAILED (make $target; $took)" >>"$log"
+        echo "$log" >>"$logs/failed"
         exit 1
     fi
-    last=$(tail -n 1 target/outside.log)
+    last=$(tail -n 1 "$log")
     case $last in
         *": skipped, "*)
-            echo "outside: $what: SKIPPED, $(tail -n 2 target/outside.log | head -n 1)"
+            echo "outside: $what: SKIPPED, $(tail -n 2 "$log" | head -n 1) ($took)"
             skipped=$((skipped + 1))
             ;;
         *)
-            echo "outside: $what: $last"
+            echo "outside: $what: $last ($took)"
             ran=$((ran + 1))
             ;;
     esac
 }
 
+if [ "$line" = all ]; then
+    rm -rf "$logs"
+    mkdir -p "$logs"
+    if tests/outside.sh first; then
+        tests/outside.sh rt &
+        rt=$!
+        tests/outside.sh other &
+        other=$!
+        wait "$rt" || : >>"$logs/failed"
+        wait "$other" || : >>"$logs/failed"
+    else
+        : >>"$logs/failed"
+    fi
+    if [ -e "$logs/failed" ]; then
+        while IFS= read -r log; do cat "$log"; done <"$logs/failed"
+        echo "outside: FAILED"
+        exit 1
+    fi
+    cat "$logs"/*.count | awk '{ ran += $1; skipped += $2 } END { print "outside: " ran " ran, " skipped " skipped" }'
+    exit
+fi
+
+run edits "each changed function of an edit"
 run programs "the programs that are run below"
 run example "the stored cards are the independent maker's" python3 cmp
 run lister-test "the lister" python3
@@ -47,12 +89,16 @@ run demo "the sample card, laid and listed"
 run sums "the check sums of published vectors"
 run lib "the library for C" cc
 run boundary "every call across the boundary to C" cc
+run boundary-valgrind "every call across the boundary, under valgrind" cc valgrind
 run python "the Python module's example" python3 cc
+run race "calls beside a second writer" python3 cc
+run model "every call beside a model from the documents" python3 cc
 run rust "the Rust crate's tests" cargo cc
 run install-test "installed and used from there" cc install
 run documents "the documents' commands" python3 cc
 run interop "cards beside sgdisk, sfdisk, fdisk and parted" python3 cc sgdisk sfdisk fdisk parted
+run scripts-test "the scripts of the gate, with a stand-in for rt" python3
 IN_TEST=1
 export IN_TEST
 run differential "the port beside the Rust original" cargo cc
-echo "outside: $ran ran, $skipped skipped"
+echo "$ran $skipped" >"$logs/$line.count"

@@ -1,6 +1,9 @@
 """The card calls for Python, over libcard.so: lay, check, put, clear, write_payload, listing.
 
-An image is a bytearray. A call that is refused raises Refused, with the number of the refusal (NUMBERS), and changes nothing.
+An image is any writable buffer of contiguous bytes, such as a bytearray or an mmap; check and listing take read-only ones too, such as bytes. No call
+copies the image. A call that is refused raises Refused, with the number of the refusal (NUMBERS), and changes nothing.
+
+The interpreter's lock is kept during a call, so that no other thread of Python writes the image meanwhile. Other processes must not do so either.
 
 >>> import uuid
 >>> image = bytearray(68 * 512)
@@ -20,9 +23,13 @@ card.Refused: refused 22, Overlap: a block that another slot has (slot 1)
 >>> listing(image, 512), bytes(image[34 * 512:34 * 512 + 11])
 ([], b'north ridge')
 
-The library is looked for in CARD_LIBRARY, beside this file, in ../../target/lib and where the system's loader looks.
+The library is the file that CARD_LIBRARY names. Where that is not set, libcard.so.0 or libcard.so is looked for beside this file, in ../../target/lib and
+where the system's loader looks.
 """
+import contextlib
 import ctypes
+import errno
+import operator
 import os
 import uuid
 from dataclasses import dataclass, field
@@ -31,39 +38,58 @@ BASIC_DATA = uuid.UUID("ebd0a0a2-b9e5-4433-87c0-68b6b72699c7")
 
 NUMBERS = {
     1: ("BadBlockSize", "the block size is neither 512 nor 4,096"),
-    2: ("Short", "the bytes to read or write are not all inside the image"),
+    2: ("Short", "the bytes to read or write are not all inside the slice"),
     3: ("Overflow", "a product or sum passes its width"),
     4: ("InvalidGptSignature", "the header does not begin with EFI PART"),
-    5: ("InvalidCRC32Checksum", "the header's check sum is another"),
-    6: ("PartsCrc", "the entry array's check sum is another"),
+    5: ("InvalidCRC32Checksum", "the header's check sum does not match"),
+    6: ("PartsCrc", "the entry array's check sum does not match"),
     7: ("BadEntrySize", "an entry size that cannot be read or written"),
     8: ("ToSmallForBackup", "the image is shorter than three blocks"),
     9: ("MissingBackupLba", "the backup comes before the primary"),
     10: ("BackupLbaToEarly", "there is no room between the two tables"),
-    11: ("WritingToWrongLba", "the header's block is on the wrong side of the other's"),
+    11: ("WritingToWrongLba", "a primary's block is not before its backup's, or a backup's not after its primary's"),
     12: ("InvalidMBRLength", "the buffer is not one block long"),
     13: ("InvalidMBRSignature", "bytes 510 and 511 are not 55 AA"),
-    14: ("InvalidPartitionLength", "the record's buffer is not 16 bytes long"),
-    15: ("NoRoom", "more entries are present than places were lent"),
+    14: ("InvalidPartitionLength", "the MBR record's buffer is not 16 bytes long"),
+    15: ("NoRoom", "more entries are present than there is room for in what was lent"),
     16: ("WrongLayout", "the table is not laid out as a card's"),
     17: ("Disagree", "the two tables differ"),
-    18: ("BadSlot", "there is no such slot"),
+    18: ("BadSlot", "there is no such slot or record"),
     19: ("NilType", "a partition of no type"),
     20: ("BadRange", "the last block comes before the first"),
     21: ("OutsideUsable", "a block outside the usable ones"),
     22: ("Overlap", "a block that another slot has"),
     23: ("EmptySlot", "the slot is not used"),
     24: ("PastPartition", "the bytes pass the partition's end"),
+    # No call gives a number from 25 on yet: each comes with its change request.
+    25: ("TwinGuid", "a partition GUID that another slot has"),
+    26: ("WrongStage", "the stage is not the next one of this update"),
+    27: ("NoGoodCopy", "neither table of the card can be read"),
+    28: ("ReservedFlag", "a flag that UEFI keeps reserved"),
+    29: ("BadHeaderSize", "the header's stated size is below 92 or above the block size"),
+    30: ("DirtyBlock", "the header's block has other bytes than zero after the header"),
+    31: ("WrongPlace", "the header names another block than the one it was read from"),
+    32: ("WindowLength", "a window is not as long as the card asks for"),
+    33: ("TableFull", "all 128 slots are used"),
+    34: ("BadMark", "the map does not begin with the mark FBM"),
+    35: ("UnknownVersion", "the label's version is not 1"),
+    36: ("BadDate", "the label's month or day does not exist"),
+    37: ("TwoDates", "the maps have two dates or two style revisions"),
+    38: ("EmptyList", "no slot was named"),
 }
 
 
 class Refused(Exception):
-    """A call that was refused: its number, and the slot that 22 names (else 0)."""
+    """A call that was refused: its number, and the slot that 22 and 25 name (else 0)."""
 
     def __init__(self, number, slot=0):
         name, meaning = NUMBERS[number]
         self.number, self.slot, self.name = number, slot, name
         super().__init__(f"refused {number}, {name}: {meaning}" + (f" (slot {slot})" if slot else ""))
+
+    def __reduce__(self):
+        """Made again from its number and slot, so that it passes from one process to another."""
+        return type(self), (self.number, self.slot)
 
 
 @dataclass(frozen=True)
@@ -111,16 +137,44 @@ class _Row(ctypes.Structure):
     _fields_ = [("slot", ctypes.c_uint64), ("record", _Record)]
 
 
-for _struct, _size in ((_Record, 128), (_Guid, 16), (_Answer, 8), (_Stored, 16), (_Count, 8), (_Row, 136)):
-    assert ctypes.sizeof(_struct) == _size, _struct
+class _Buffer(ctypes.Structure):
+    """The interpreter's own description of a buffer, Py_buffer."""
+
+    _fields_ = [("place", ctypes.c_void_p), ("owner", ctypes.c_void_p), ("length", ctypes.c_ssize_t), ("item_size", ctypes.c_ssize_t), ("read_only", ctypes.c_int),
+                ("dimensions", ctypes.c_int), ("format", ctypes.c_void_p), ("shape", ctypes.c_void_p), ("strides", ctypes.c_void_p),
+                ("suboffsets", ctypes.c_void_p), ("internal", ctypes.c_void_p)]
+
+
+for _struct, _size in ((_Record, 128), (_Guid, 16), (_Answer, 8), (_Stored, 16), (_Count, 8), (_Row, 136), (_Buffer, 80)):
+    if ctypes.sizeof(_struct) != _size:
+        raise ImportError(f"{_struct.__name__} has {ctypes.sizeof(_struct)} bytes here, and not {_size}: this module is for x86-64")
+
+_NAMES = ("libcard.so.0", "libcard.so")
+
+
+def _named(path):
+    """The library that CARD_LIBRARY names."""
+    if not os.path.exists(path):
+        raise FileNotFoundError(errno.ENOENT, "CARD_LIBRARY names a library that is not there", path)
+    return ctypes.PyDLL(path)
 
 
 def _open():
+    """The library. PyDLL keeps the interpreter's lock during a call."""
+    if os.environ.get("CARD_LIBRARY"):
+        return _named(os.environ["CARD_LIBRARY"])
     here = os.path.dirname(os.path.abspath(__file__))
-    for path in (os.environ.get("CARD_LIBRARY"), os.path.join(here, "libcard.so"), os.path.join(here, "..", "..", "target", "lib", "libcard.so")):
-        if path and os.path.exists(path):
-            return ctypes.CDLL(path)
-    return ctypes.CDLL("libcard.so")
+    for folder in (here, os.path.join(here, "..", "..", "target", "lib")):
+        for path in (os.path.join(folder, name) for name in _NAMES):
+            if os.path.exists(path):
+                return ctypes.PyDLL(path)
+    failures = []
+    for name in _NAMES:
+        try:
+            return ctypes.PyDLL(name)
+        except OSError as failure:
+            failures.append(str(failure))
+    raise OSError("no library beside card.py, in ../../target/lib or where the system's loader looks; CARD_LIBRARY can name it: " + "; ".join(failures))
 
 
 _lib = _open()
@@ -141,11 +195,37 @@ _payload = _declare("card_write_payload", _Stored, *_slice, ctypes.c_uint64, cty
 _list = _declare("card_list", _Count, *_slice, ctypes.c_uint64, *_slice)
 
 
-def _lent(data):
-    """A pointer and a length; an empty slice has a pointer too, which is never read."""
-    n = len(data)
-    room = (ctypes.c_uint8 * max(n, 1)).from_buffer(data) if n else (ctypes.c_uint8 * 1)()
-    return room, n
+_hold = ctypes.PYFUNCTYPE(ctypes.c_int, ctypes.py_object, ctypes.POINTER(_Buffer), ctypes.c_int)(("PyObject_GetBuffer", ctypes.pythonapi))
+_release = ctypes.PYFUNCTYPE(None, ctypes.POINTER(_Buffer))(("PyBuffer_Release", ctypes.pythonapi))
+_nothing = ctypes.c_uint8()
+
+
+def _view(data, what):
+    try:
+        return memoryview(data)
+    except TypeError:
+        raise TypeError(f"{what} must be a buffer, as bytes, bytearray, memoryview or mmap, and not {type(data).__name__}") from None
+
+
+def _fits(view, what, written):
+    """A buffer is lent only as it stands in memory, so that nothing of it is copied."""
+    if not view.c_contiguous:
+        raise BufferError(f"{what} must be contiguous in memory, and this view leaves bytes out or turns them round")
+    if written and view.readonly:
+        raise TypeError(f"{what} is read-only, and this call would write it")
+
+
+@contextlib.contextmanager
+def _lent(data, what="the image", written=False):
+    """A pointer to a buffer's bytes and how many there are; the buffer is held meanwhile. An empty one has a pointer too, which is never read."""
+    with _view(data, what) as view:
+        _fits(view, what, written)
+        held = _Buffer()
+        _hold(view, held, 0)
+        try:
+            yield held.place or ctypes.addressof(_nothing), view.nbytes
+        finally:
+            _release(held)
 
 
 def _take(answer):
@@ -155,6 +235,7 @@ def _take(answer):
 
 
 def _number(value, bits, what):
+    value = operator.index(value)
     if not 0 <= value < 1 << bits:
         raise ValueError(f"{what} does not fit {bits} bits: {value}")
     return value
@@ -164,6 +245,8 @@ def _record(r):
     units = r.name.encode("utf-16-le", "surrogatepass")
     if len(units) > 72:
         raise ValueError(f"a name has at most 36 UTF-16 units: {r.name!r}")
+    if "\0" in r.name:
+        raise ValueError(f"a name ends at its first zero, so none can be in it: {r.name!r}")
     raw = r.type.bytes_le + r.guid.bytes_le
     raw += b"".join(_number(x, 64, "a number of the record").to_bytes(8, "little") for x in (r.first, r.last, r.flags))
     return _Record.from_buffer_copy(raw + units.ljust(72, b"\0"))
@@ -174,36 +257,53 @@ def _read(r):
     return Record(uuid.UUID(bytes_le=bytes(r.type)), uuid.UUID(bytes_le=bytes(r.guid)), r.first, r.last, r.flags, text)
 
 
+def _blocks(block_size):
+    return _number(block_size, 64, "the block size")
+
+
+def _apart(image, data):
+    """The call must not read bytes that it writes."""
+    (place, length), (other, count) = image, data
+    if length and count and place < other + count and other < place + length:
+        raise ValueError("the bytes to write are part of the image, or the image is part of them: write a copy")
+
+
 def lay(image, block_size, guid):
     """Lays an empty card for a disk GUID. 1, 8, 10."""
-    _take(_lay(*_lent(image), _number(block_size, 64, "the block size"), _Guid.from_buffer_copy(guid.bytes_le)))
+    with _lent(image, written=True) as lent:
+        _take(_lay(*lent, _blocks(block_size), _Guid.from_buffer_copy(guid.bytes_le)))
 
 
 def check(image, block_size):
     """Raises Refused unless the image is a whole card. 1, 8, 10, 4, 5, 16, 6, 17."""
-    _take(_check(*_lent(image), _number(block_size, 64, "the block size")))
+    with _lent(image) as lent:
+        _take(_check(*lent, _blocks(block_size)))
 
 
 def put(image, block_size, slot, record):
     """Puts a record into a slot of both tables. The check's numbers, then 18, 19, 20, 21, 22."""
-    _take(_put(*_lent(image), _number(block_size, 64, "the block size"), _number(slot, 32, "the slot"), _record(record)))
+    with _lent(image, written=True) as lent:
+        _take(_put(*lent, _blocks(block_size), _number(slot, 32, "the slot"), _record(record)))
 
 
 def clear(image, block_size, slot):
     """Clears a slot in both tables; the partition's bytes stay. The check's numbers, then 18."""
-    _take(_clear(*_lent(image), _number(block_size, 64, "the block size"), _number(slot, 32, "the slot")))
+    with _lent(image, written=True) as lent:
+        _take(_clear(*lent, _blocks(block_size), _number(slot, 32, "the slot")))
 
 
 def write_payload(image, block_size, slot, place, data):
-    """Writes bytes at a place of a slot's partition, and says how many. The check's numbers, then 18, 23, 24."""
-    lent = _lent(bytearray(data))
-    return _take(_payload(*_lent(image), _number(block_size, 64, "the block size"), _number(slot, 32, "the slot"), _number(place, 64, "the place"), *lent)).bytes
+    """Writes bytes at a place of a slot's partition, and says how many. The bytes are any buffer outside the image. The check's numbers, then 18, 23, 24."""
+    with _lent(image, written=True) as lent, _lent(data, "the bytes to write") as source:
+        _apart(lent, source)
+        return _take(_payload(*lent, _blocks(block_size), _number(slot, 32, "the slot"), _number(place, 64, "the place"), *source)).bytes
 
 
 def listing(image, block_size):
     """The used slots, ascending, each with its record. The check's numbers."""
     rows = (_Row * 128)()
-    n = _take(_list(*_lent(image), _number(block_size, 64, "the block size"), ctypes.byref(rows), ctypes.sizeof(rows))).count
+    with _lent(image) as lent:
+        n = _take(_list(*lent, _blocks(block_size), ctypes.byref(rows), ctypes.sizeof(rows))).count
     return [Entry(row.slot, _read(row.record)) for row in rows[:n]]
 
 

@@ -73,7 +73,10 @@ static void cards(void) {
     SAME(card_check(img, LEN, 4096).number, CARD_BACKUP_LBA_TO_EARLY);
     SAME(card_count_used(img, LEN, BLOCK).count, 0);
     SAME(card_next_used(img, LEN, BLOCK, 0).slot, 0);
+}
 
+/* Puts p in slot 7 and q in slot 128. */
+static void puts_two(void) {
     gpt_partition p = some(35, 36), q = some(34, 34);
     SAME(card_put(img, LEN, BLOCK, 129, p).number, CARD_BAD_SLOT);
     SAME(card_put(img, LEN, BLOCK, 1, some(36, 35)).number, CARD_BAD_RANGE);
@@ -82,12 +85,14 @@ static void cards(void) {
     BYTES(img + 2 * BLOCK + 6 * 128, &p, 128);
     BYTES(img + (BLOCKS - 33) * BLOCK + 6 * 128, &p, 128);
     memcpy(before, img, LEN);
-    a = card_put(img, LEN, BLOCK, 2, some(34, 35));
+    card_answer a = card_put(img, LEN, BLOCK, 2, some(34, 35));
     SAME(a.number, CARD_OVERLAP);
     SAME(a.slot, 7);
     KEPT();
     SAME(card_put(img, LEN, BLOCK, 128, q).number, 0);
+}
 
+static void counts(void) {
     gpt_count n = card_count_used(img, LEN, BLOCK);
     SAME(n.number, 0);
     SAME(n.count, 2);
@@ -98,7 +103,10 @@ static void cards(void) {
     SAME(card_next_used(img, LEN, BLOCK, 7).slot, 128);
     SAME(card_next_used(img, LEN, BLOCK, 128).slot, 0);
     SAME(card_next_used(img, 1000, BLOCK, 0).number, CARD_TO_SMALL_FOR_BACKUP);
+}
 
+static void reads(void) {
+    gpt_partition p = some(35, 36), q = some(34, 34);
     gpt_slot_read r = card_read_slot(img, LEN, BLOCK, 7);
     SAME(r.number, 0);
     SAME(r.present, 1);
@@ -194,6 +202,10 @@ static void headers(void) {
     SAME(k.header.backup_lba, 0);
     SAME(k.header.crc32_parts, 0);
     ZEROS(&k.header.disk_guid, 16);
+}
+
+static void sums(void) {
+    gpt_header_read h = gpt_read_primary_header(img, LEN, BLOCK);
     gpt_block f = gpt_find_backup_lba(1600, BLOCK);
     SAME(f.number, 0);
     SAME(f.lba, 2);
@@ -268,12 +280,17 @@ static void builds(void) {
     SAME(h.header.part_start, 2);
     SAME(h.header.crc32, 0);
     BYTES(&h.header.disk_guid, &disk, 16);
+}
+
+static void builds_set(void) {
+    gpt_settings s = gpt_settings_new(disk);
+    s.backup_lba = 67;
     s.last_usable = 100;
     s.first_usable = 50;
     s.num_parts = 4;
     s.part_size = 100;
     s.primary = false;
-    h = gpt_build(s, BLOCK);
+    gpt_header_read h = gpt_build(s, BLOCK);
     SAME(h.number, 0);
     SAME(h.header.current_lba, 67);
     SAME(h.header.backup_lba, 1);
@@ -412,7 +429,10 @@ static void records(void) {
     SAME(t.number, 0);
     ZEROS(&t.old, 16);
     BYTES(&t.mbr.partitions[3], &mine, 16);
-    BYTES(&t.mbr, &m, 448 + 48);
+    BYTES(t.mbr.bootcode, m.bootcode, 440);
+    BYTES(t.mbr.disk_signature, m.disk_signature, 4);
+    SAME(t.mbr.unknown, 0x1234);
+    BYTES(t.mbr.partitions, m.partitions, 48);
     r = gpt_mbr_record(t.mbr, 3);
     SAME(r.number, 0);
     BYTES(&r.part_record, &mine, 16);
@@ -421,6 +441,31 @@ static void records(void) {
     SAME(t.number, CARD_BAD_SLOT);
     ZEROS(&t.mbr.partitions, 64);
     SAME(t.mbr.unknown, 0);
+}
+
+/* The boot code and the disk signature alone, in an MBR with the signature "card". */
+static void mbr_parts(uint8_t *room, size_t len) {
+    gpt_bootcode code;
+    memset(code.bytes, 3, sizeof code.bytes);
+    code.bytes[439] = 4;
+    SAME(gpt_mbr_write_bootcode(room, len, code).bytes, 440);
+    SAME(room[439], 4);
+    BYTES(room + 440, "card", 4);
+    gpt_bootcode_read c = gpt_mbr_read_bootcode(room, 440);
+    SAME(c.number, 0);
+    BYTES(c.bootcode, code.bytes, 440);
+    c = gpt_mbr_read_bootcode(room, 439);
+    SAME(c.number, CARD_SHORT);
+    ZEROS(c.bootcode, 440);
+    gpt_signature sign = {{1, 2, 3, 4}};
+    SAME(gpt_mbr_write_disk_signature(room, len, sign).bytes, 4);
+    BYTES(room + 440, sign.bytes, 4);
+    gpt_signature_read g = gpt_mbr_read_disk_signature(room, len);
+    SAME(g.number, 0);
+    BYTES(g.disk_signature, sign.bytes, 4);
+    g = gpt_mbr_read_disk_signature(room, 443);
+    SAME(g.number, CARD_SHORT);
+    ZEROS(g.disk_signature, 4);
 }
 
 static void mbrs(void) {
@@ -443,50 +488,38 @@ static void mbrs(void) {
     BYTES(stored.bytes, room, 512);
     gpt_mbr_read r = gpt_mbr_from_bytes(room, 512, BLOCK);
     SAME(r.number, 0);
-    BYTES(&r.mbr, &m, 446);
+    BYTES(r.mbr.bootcode, m.bootcode, 440);
+    BYTES(r.mbr.disk_signature, "card", 4);
+    SAME(r.mbr.unknown, 0x1234);
     BYTES(r.mbr.partitions, m.partitions, 64);
     SAME(gpt_mbr_from_bytes(room, 511, BLOCK).number, CARD_INVALID_MBR_LENGTH);
     SAME(gpt_mbr_from_image(room, sizeof room, BLOCK).mbr.unknown, 0x1234);
     r = gpt_mbr_from_image(room, 511, BLOCK);
     SAME(r.number, CARD_SHORT);
-    ZEROS(&r.mbr, 446);
+    ZEROS(r.mbr.bootcode, 440);
+    ZEROS(r.mbr.disk_signature, 4);
+    SAME(r.mbr.unknown, 0);
     ZEROS(r.mbr.partitions, 64);
     m.partitions[2].lb_start = 0xABCDEF01;
     m.unknown = 0;
     SAME(gpt_mbr_update_conservative(room, sizeof room, m).bytes, 66);
     SAME(le(room + 446 + 32 + 8, 4), 0xABCDEF01);
     SAME(le(room + 444, 2), 0x1234);
-
-    gpt_bootcode code;
-    memset(code.bytes, 3, sizeof code.bytes);
-    code.bytes[439] = 4;
-    SAME(gpt_mbr_write_bootcode(room, sizeof room, code).bytes, 440);
-    SAME(room[439], 4);
-    BYTES(room + 440, "card", 4);
-    gpt_bootcode_read c = gpt_mbr_read_bootcode(room, 440);
-    SAME(c.number, 0);
-    BYTES(c.bootcode, code.bytes, 440);
-    c = gpt_mbr_read_bootcode(room, 439);
-    SAME(c.number, CARD_SHORT);
-    ZEROS(c.bootcode, 440);
-    gpt_signature sign = {{1, 2, 3, 4}};
-    SAME(gpt_mbr_write_disk_signature(room, sizeof room, sign).bytes, 4);
-    BYTES(room + 440, sign.bytes, 4);
-    gpt_signature_read g = gpt_mbr_read_disk_signature(room, sizeof room);
-    SAME(g.number, 0);
-    BYTES(g.disk_signature, sign.bytes, 4);
-    g = gpt_mbr_read_disk_signature(room, 443);
-    SAME(g.number, CARD_SHORT);
-    ZEROS(g.disk_signature, 4);
+    mbr_parts(room, sizeof room);
 }
 
 int main(void) {
     cards();
+    puts_two();
+    counts();
+    reads();
     lists();
     payloads();
     headers();
+    sums();
     writes();
     builds();
+    builds_set();
     entries();
     arrays();
     records();

@@ -1,12 +1,13 @@
 #!/usr/bin/env python3
-"""Runs target/bin/lister on cards of the independent maker and on what it must refuse, and compares all that it prints with document 01's words."""
+"""Runs target/bin/lister on cards of the independent maker and on what it must refuse, and compares all that it prints with document 01's words.
+Then runs it, sums and sample with input and output that fail: that is said on standard error, and is never a verdict."""
 import os
 import subprocess
 import sys
 
+import failing
 import make_card
 
-LISTER = os.path.join(os.path.dirname(os.path.abspath(__file__)), "..", "..", "target", "bin", "lister")
 HEAD = "slot first last blocks\n"
 
 
@@ -43,14 +44,103 @@ CASES = [
 ]
 
 
+LISTED = HEAD + "1 34 34 1\nused 1\n"
+USAGE = {
+    "lister": "usage: lister < IMAGE (blocks of 512 bytes, 65,536 bytes at most; the exit status is always 0, so read what is printed)\n",
+    "sums": "usage: sums < BYTES (65,536 at most; the exit status is always 0, so read what is printed)\n",
+    "sample": "usage: sample > IMAGE (65,536 bytes; the exit status is always 0, so read what is printed on standard error)\n",
+}
+
+
+def stored(program):
+    with open(os.path.join(os.path.dirname(os.path.abspath(__file__)), "..", "..", "crates", program, "stdout"), "rb") as f:
+        return f.read().decode("latin-1")
+
+
+def arguments(program):
+    """What a program that takes no arguments says to some."""
+    usage = USAGE[program]
+    return [
+        ("--help", (usage, "", 0), lambda: failing.run(program, "--help")),
+        ("a file's name", ("", usage, 0), lambda: failing.run(program, "/dev/null")),
+        ("an empty argument", ("", usage, 0), lambda: failing.run(program, "")),
+        ("--help and more", ("", usage, 0), lambda: failing.run(program, "--help", "--help")),
+        ("a word that begins like --help", ("", usage, 0), lambda: failing.run(program, "--helpful")),
+    ]
+
+
+def inputs(program, before):
+    """Input that fails; `before` is what the program prints before it reads."""
+    want = (before, f"{program}: cannot read the input\n", 0)
+    return [
+        ("closed input", want, lambda: failing.closed_input(program)),
+        ("a directory", want, lambda: failing.directory(program)),
+        ("a file that is open for writing", want, lambda: failing.open_for_writing(program)),
+        ("EIO", want, lambda: failing.input_error(program)),
+        ("EAGAIN", want, lambda: failing.not_ready(program)),
+        ("EAGAIN after 1,536 bytes", want, lambda: failing.not_ready(program, bytes(1536))),
+    ]
+
+
+def slow(program, image, output):
+    """Input that is slow or interrupted, which is read to its end."""
+    want = (output, "", 0)
+    return [
+        ("small pieces", want, lambda: failing.small_pieces(program, image)),
+        ("stopped on a pipe", want, lambda: failing.stopped_on_pipe(program, image)),
+        ("EINTR", want, lambda: failing.interrupted_read(program, image)),
+    ]
+
+
+def outputs(program, image, output):
+    """Output that fails: at the first byte, and after some."""
+    said = f"{program}: cannot write the output\n"
+    want = ("", said, 0)
+    return [
+        ("a full disk", want, lambda: failing.full(program, image)),
+        ("closed output", want, lambda: failing.closed_output(program, image)),
+        ("a closed pipe, SIGPIPE ignored", want, lambda: failing.broken_pipe(program, image, True)),
+        ("a closed pipe", ("", "", -13), lambda: failing.broken_pipe(program, image, False)),
+        ("a full pipe that does not block", want, lambda: failing.full_pipe(program, image)),
+        ("a disk that is full after 30 bytes", (output[:30], said, 0), lambda: failing.full_after(program, image, 30)),
+    ]
+
+
+def failures():
+    """All such runs: the program, what it is run on, what it must write and its status, and the run."""
+    vectors = stored("sums")
+    vectors = vectors[:vectors.rindex("\n", 0, -1) + 1]
+    text = b"123456789"
+    sums = vectors + "cbf43926 9 bytes of standard input\n"
+    runs = {
+        "lister": inputs("lister", "") + slow("lister", ONE, LISTED) + outputs("lister", ONE, LISTED) + arguments("lister"),
+        "sums": inputs("sums", vectors) + slow("sums", text, sums) + outputs("sums", text, sums) + arguments("sums"),
+        "sample": outputs("sample", b"", stored("sample")) + arguments("sample") + [
+            ("closed input, which it does not read", (stored("sample"), "", 0), lambda: failing.closed_input("sample")),
+            ("EINTR", (stored("sample"), "", 0), lambda: failing.interrupted_write("sample", b"")),
+        ],
+    }
+    return [(program, *row) for program in runs for row in runs[program]]
+
+
+def shown(text):
+    return repr(text) if len(text) < 160 else f"{text[:30]!r} .. {text[-60:]!r} ({len(text)} bytes)"
+
+
 def main():
     wrong = 0
     for what, image, want in CASES:
-        got = subprocess.run([LISTER], input=image, capture_output=True).stdout.decode()
+        got = subprocess.run([os.path.join(failing.BIN, "lister")], input=image, capture_output=True).stdout.decode()
         if got != want:
             wrong += 1
             print(f"lister: {what}: printed {got!r}, not {want!r}")
-    print(f"lister: {len(CASES)} inputs, {wrong} wrong")
+    runs = failures()
+    for program, what, want, start in runs:
+        got = start()
+        if got != want:
+            wrong += 1
+            print(f"{program}: {what}: wrote {shown(got[0])}, said {shown(got[1])}, status {got[2]}; not {shown(want[0])}, {shown(want[1])}, {want[2]}")
+    print(f"lister: {len(CASES)} inputs, and {len(runs)} runs of lister, sums and sample with input, output or arguments that fail; {wrong} wrong")
     return 1 if wrong else 0
 
 

@@ -6,7 +6,8 @@ use units::Lba;
 use units::Refusal;
 ghost use mathlib.Core.Path.{_≡_};
 ghost use Prim.Native.Nat.{_+_, _<_, _≤_, _^_};
-ghost use Rattle.builder.specs.Building.{newBuilder, ofHeader, withPrimary, withDiskGuid, withBackupLba, withFirstUsable, withLastUsable, withNumParts, withPartSize, built, greater, blocksFor, sidesOf, beforeArray, headerOf};
+ghost use Rattle.builder.specs.Building.{newBuilder, ofHeader, built, greater, blocksFor, sidesOf, beforeArray, headerOf};
+ghost use Rattle.builder.specs.Building.{withPrimary, withDiskGuid, withBackupLba, withFirstUsable, withLastUsable, withNumParts, withPartSize};
 ghost use Rattle.builder.specs.Meanings.{builtMeans};
 
 // What a header is built from. An entry count or size that is never set is 128, a backup that is never set is 0.

@@ -1,3 +1,5 @@
--- The ways out of the card's calls.
+-- The laws of the card's calls, for this crate and those above it.
+pub mod LayWays
+pub mod CopyLaws
 pub mod ChangeWays
 pub mod PayWays

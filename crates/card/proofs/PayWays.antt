@@ -4,165 +4,185 @@ use mathlib.Core.Path.{_≡_, refl, sym, ap, _∙_}
 use mathlib.Core.Bool.{Bool, true, false, not}
 use mathlib.Core.List.{List}
 use Prim.Native.Nat.{ℕ, zero, suc, _+_, _*_, _-_, _≤_, _<_}
-use native.Mathlib.Nat.{mul-le-mul-right, mul-le-mul-left}
+use native.Mathlib.Nat.{mul-le-mul-right, mul-le-mul-left, mul-sub, mul-comm}
 use native.Mathlib.Omega.{arith}
-use borrow.Author.Tests.{lt-ltb, le-ltb}
+use borrow.Author.Tests.{lt-ltb, le-ltb, ltb-false}
 use lib.Dec.{ltb}
 use lib.ListN.{length}
 use lib.Seq.{sets}
-use Rattle.units.specs.Answer.{Why, Answer, accepted, refused, Ends, ends}
+use Rattle.units.specs.declared.BytePlace.{BytePlace}
+use Rattle.units.specs.declared.why.Why.{Why}
+use Rattle.units.specs.declared.Refusal.{Refusal}
+use Rattle.units.specs.declared.Refusal.the-variants.{EmptySlot}
+use Rattle.units.specs.Answer.{Answer, accepted, refused, refuse, plain, fine, when, ifZero, pick, judged, gives, Ends, ends}
+use Rattle.units.specs.Refusals.{why, refusalOf, refusedBy}
 use Rattle.units.specs.Bytes.{part, num, allZero}
-use Rattle.tables.specs.Checks.{when, orElse}
+use Rattle.units.proofs.Chains.{found, past, last, none, else-first, none-when, else-second, Named, named-is, named-when, named-else, judged-none, judged-some, judged-zero, settle-accepted, settle-refused}
+use Rattle.partition.specs.Format.{firstAt, lastAt, nilTypeAt}
 use Rattle.tables.specs.Places.{lastUsable}
-use Rattle.tables.specs.Lens.{Tables, tablesAt, tables}
+use Rattle.tables.specs.Lens.{Front, copyIn, Tables, tables}
 use Rattle.tables.specs.Entries.{entry, used, firstOf, lastOf}
-use Rattle.tables.specs.Check.{roomCheck, check}
-use Rattle.tables.specs.Calls.{judged, badSlot, clearNumber, payloadNumber, payloadPlace, payloadAt}
-use Rattle.tables.proofs.Orders.{else-first}
+use Rattle.tables.specs.Check.{badSlot, slotCheck}
 use Rattle.tables.proofs.Room.{Room}
 use Rattle.tables.proofs.EntryLaws.{Inside, ok-used}
-use Rattle.tables.proofs.Good.{room-ok}
-use Rattle.tables.proofs.State.{judged-zero, accepted-good}
-use Rattle.tables.proofs.Changes.{slot-ok}
-use Rattle.tables.proofs.Payload.{pay-fits}
-use Rattle.tables.proofs.LayWays.{settled}
-use Rattle.tables.proofs.NumberWays.{else-here, else-on, else-most, when-most}
-use Rattle.checking.proofs.CheckWays.{own-used, own-first, own-last}
-use Rattle.card.proofs.ChangeWays.{here, on, else-assoc, clear-fine, clear-most}
+use Rattle.tables.proofs.Good.{room-ok, slot-ok, check-good}
+use Rattle.checking.proofs.CheckWays.{own-used, own-first, own-last, slot-good, named-slot}
+use Rattle.card.specs.Calls.{slotEntry, usedCheck, partitionBytes, payloadCheck, payloadPlace, payloadAt}
 
--- ---- the number
+-- ---- what is read of a slot in the front table's bytes
 
-module _ (B n : ℕ) (t : Tables) (s p m : ℕ) where
-  -- 23 and 24
-  unfoldable siteCheck : ℕ
-  siteCheck =
-      orElse (when (not (used (entry (t .front .array) (s - 1)))) 23)
-      (when (ltb ((lastOf (entry (t .front .array) (s - 1)) + 1 - firstOf (entry (t .front .array) (s - 1))) * B) (p + m)) 24)
+module _ (B : ℕ) (ys : List ℕ) (s : ℕ) (b : badSlot s ≡ false) {at : ℕ} (ka : at ≡ B + 128 * (s - 1)) where
+  pub slot-unused : {z : Bool} → z ≡ nilTypeAt ys at → z ≡ not (used (entry (copyIn B Front ys .array) (s - 1)))
+  unfolding copyIn
+  slot-unused {z} e = sym (ap not (own-used ys B (s - 1) (slot-ok s b .1) (e ∙ ap (λ (i : ℕ). allZero (part ys i 16)) ka)) ∙ twice z)
+    where
+      twice : (z : Bool) → not (not z) ≡ z
+      twice true = refl
+      twice false = refl
 
-  -- a payload write tests what clear does, and then 23 and 24
-  pay-parts : payloadNumber B n t s p m ≡ orElse (clearNumber B n t s) siteCheck
-  unfolding payloadNumber clearNumber siteCheck
-  pay-parts = else-assoc (check B n t) (when (badSlot s) 18) siteCheck
+  pub slot-first : {f : ℕ} → f ≡ firstAt ys at → f ≡ firstOf (entry (copyIn B Front ys .array) (s - 1))
+  unfolding copyIn
+  slot-first e = own-first ys B (s - 1) (slot-ok s b .1) (e ∙ ap (λ (i : ℕ). num ys (i + 32) 8) ka)
 
-  pub pay-most : payloadNumber B n t s p m ≤ 24
-  unfolding siteCheck
-  pay-most =
-      let u : Bool = not (used (entry (t .front .array) (s - 1))) in
-      let o : Bool = ltb ((lastOf (entry (t .front .array) (s - 1)) + 1 - firstOf (entry (t .front .array) (s - 1))) * B) (p + m) in
-      let k : orElse (clearNumber B n t s) siteCheck ≤ 24 = else-most (clearNumber B n t s) _ 24 (clear-most B n t s) (else-most (when u 23) _ 24 (when-most u 23 24 (omega arith)) (when-most o 24 24 (omega arith))) in
-      omega (arith, pay-parts)
+  pub slot-last : {l : ℕ} → l ≡ lastAt ys at → l ≡ lastOf (entry (copyIn B Front ys .array) (s - 1))
+  unfolding copyIn
+  slot-last e = own-last ys B (s - 1) (slot-ok s b .1) (e ∙ ap (λ (i : ℕ). num ys (i + 40) 8) ka)
 
-  pub pay-clear : payloadNumber B n t s p m ≡ 0 → clearNumber B n t s ≡ 0
-  pay-clear h = else-first (clearNumber B n t s) siteCheck (sym pay-parts ∙ h)
+-- ---- 18, 23
 
-  module _ {f : ℕ} (h : f ≡ clearNumber B n t s) where
-    pub pay-found : (f ≡ 0 → ⊥) → f ≡ payloadNumber B n t s p m
-    pay-found d = else-here _ h d ∙ sym pay-parts
+module _ (B n : ℕ) (t : Tables) (s : ℕ) {f : Why} (e : f ≡ slotCheck B n t s) where
+  pub used-checked : (f .number ≡ 0 → ⊥) → f ≡ usedCheck B n t s
+  unfolding usedCheck
+  used-checked d = found _ e d
 
-    site : {r : ℕ} → f ≡ 0 → r ≡ siteCheck → r ≡ payloadNumber B n t s p m
-    site o q = else-on h o q ∙ sym pay-parts
+  module _ (o : f .number ≡ 0) {z : Bool} (k : z ≡ not (used (slotEntry t s))) where
+    pub used-not : z ≡ true → plain 23 ≡ usedCheck B n t s
+    unfolding usedCheck
+    used-not q = past e o (last _ (sym k ∙ q))
 
--- the entry of a slot, where the check and the slot are in order
-pub record Site (B n s : ℕ) : Type 0 where
-  pub room : roomCheck B n ≡ 0
-  pub slot : s - 1 < 128
-  pub ok : badSlot s ≡ false
+    pub used-fine : z ≡ false → fine ≡ usedCheck B n t s
+    unfolding usedCheck
+    used-fine q = past e o (none _ (sym k ∙ q))
 
--- the partition of a used entry: its blocks, and its bytes, which the image has
-pub record Span (B n f l : ℕ) : Type 0 where
+-- ---- 24
+
+-- the partition of a used slot: its blocks in their order, and its end inside the image
+pub record Spanned (B n f l : ℕ) : Type 0 where
   pub order : f ≤ l
-  pub some : l + 1 ≤ n
-  pub size : (l + 1 - f) * B ≤ n
+  pub end : (l + 1) * B ≤ n
 
-module _ (B : ℕ) (xs : List ℕ) (s : ℕ) where
-  pub pay-site : clearNumber B (length xs) (tables B xs) s ≡ 0 → Site B (length xs) s
-  pay-site c =
-      let k = clear-fine B (length xs) (tables B xs) s c in
-      let o = slot-ok s (k .1) in
-      record { room = accepted-good B (length xs) xs refl (k .0) .room; slot = o .1; ok = k .1 }
+module _ (B : ℕ) (xs : List ℕ) (s : ℕ) (h : usedCheck B (length xs) (tables B xs) s .number ≡ 0) where
+  pub used-slot : slotCheck B (length xs) (tables B xs) s .number ≡ 0
+  unfolding usedCheck
+  used-slot = else-first (slotCheck B (length xs) (tables B xs) s) _ h
 
-  module _ {k : ℕ} (h : k ≡ clearNumber B (length xs) (tables B xs) s) (o : k ≡ 0) {at : ℕ} (ka : at ≡ B + B + 128 * (s - 1))
-      {z : Bool} (kz : z ≡ allZero (part xs at 16)) where
-    is-used : used (entry (tables B xs .front .array) (s - 1)) ≡ not z
-    unfolding tablesAt
-    is-used = own-used xs (B + B) (s - 1) (pay-site (sym h ∙ o) .slot) (kz ∙ ap (λ (i : ℕ). allZero (part xs i 16)) ka)
+  is-used : used (slotEntry (tables B xs) s) ≡ true
+  unfolding usedCheck
+  is-used =
+      let q : not (used (slotEntry (tables B xs) s)) ≡ false = none-when (not (used (slotEntry (tables B xs) s))) (plain 23) tt (else-second (slotCheck B (length xs) (tables B xs) s) _ h) in
+      back (used (slotEntry (tables B xs) s)) q
+    where
+      back : (z : Bool) → not z ≡ false → z ≡ true
+      back true e = refl
+      back false e = sym e
 
-    pub pay-23 : (p m : ℕ) → z ≡ true → 23 ≡ payloadNumber B (length xs) (tables B xs) s p m
-    unfolding siteCheck
-    pay-23 p m q = site B (length xs) (tables B xs) s p m h o (here 22 _ (ap not (is-used ∙ ap not q)))
+  pub used-room : Room B (length xs)
+  used-room = room-ok B (length xs) (check-good B (length xs) (tables B xs) (slot-good B (length xs) (tables B xs) s used-slot .0) .room)
 
-    module _ (qz : z ≡ false) {f l : ℕ} (kf : f ≡ num xs (at + 32) 8) (kl : l ≡ num xs (at + 40) 8) where
-      is-first : f ≡ firstOf (entry (tables B xs .front .array) (s - 1))
-      unfolding tablesAt
-      is-first = own-first xs (B + B) (s - 1) (pay-site (sym h ∙ o) .slot) (kf ∙ ap (λ (i : ℕ). num xs (i + 32) 8) ka)
+  pub used-spanned : Spanned B (length xs) (firstOf (slotEntry (tables B xs) s)) (lastOf (slotEntry (tables B xs) s))
+  used-spanned =
+      let k = slot-good B (length xs) (tables B xs) s used-slot in
+      let r : Room B (length xs) = used-room in
+      let g = check-good B (length xs) (tables B xs) (k .0) in
+      let i : Inside B (length xs) (slotEntry (tables B xs) s) = ok-used B (length xs) _ (g .entries .each (s - 1) (slot-ok s (k .1) .1)) is-used in
+      let a : lastOf (slotEntry (tables B xs) s) + 1 ≤ lastUsable B (length xs) + 1 = omega (arith, i .high) in
+      let b : (lastOf (slotEntry (tables B xs) s) + 1) * B ≤ (lastUsable B (length xs) + 1) * B = mul-le-mul-right B a in
+      record { order = i .order; end = omega (arith, b, r .last, r .seam, r .top) }
 
-      is-last : l ≡ lastOf (entry (tables B xs .front .array) (s - 1))
-      unfolding tablesAt
-      is-last = own-last xs (B + B) (s - 1) (pay-site (sym h ∙ o) .slot) (kl ∙ ap (λ (i : ℕ). num xs (i + 40) 8) ka)
+-- the bytes of a partition, by the places of its two ends
+pub span-bytes : (B n f l : ℕ) → Spanned B n f l → (l + 1 - f) * B ≡ (l + 1) * B - f * B
+span-bytes B n f l s = mul-comm (l + 1 - f) B ∙ mul-sub B (l + 1) f ∙ rw (mul-comm B (l + 1), mul-comm B f)
 
-      pub pay-span : Span B (length xs) f l
-      pay-span =
-          let t = pay-site (sym h ∙ o) in
-          let r : Room B (length xs) = room-ok B (length xs) (t .room) in
-          let g = accepted-good B (length xs) xs refl (clear-fine B (length xs) (tables B xs) s (sym h ∙ o) .0) in
-          let i : Inside B (length xs) (entry (tables B xs .front .array) (s - 1)) = ok-used B (length xs) _ (g .entries .each (s - 1) (t .slot)) (is-used ∙ ap not qz) in
-          let a : l + 1 ≤ lastUsable B (length xs) + 1 = omega (arith, i .high, is-last) in
-          let b : (l + 1) * B ≤ (lastUsable B (length xs) + 1) * B = mul-le-mul-right B a in
-          let w : l + 1 - f ≤ l + 1 = omega arith in
-          let d : (l + 1 - f) * B ≤ (l + 1) * B = mul-le-mul-right B w in
-          let u : 1 ≤ B = omega (arith, r .least) in
-          let e : (l + 1) * 1 ≤ (l + 1) * B = mul-le-mul-left (l + 1) u in
-          record { order = omega (arith, i .order, is-first, is-last); some = omega (arith, b, e, r .last, r .seam, r .top); size = omega (arith, b, d, r .last, r .seam, r .top) }
+pub span-order : (B n f l : ℕ) → Spanned B n f l → f * B ≤ (l + 1) * B
+span-order B n f l s = let h : f ≤ l + 1 = omega (arith, s .order) in mul-le-mul-right B h
 
-      last-test : (p m : ℕ) (x : Bool) → ltb ((l + 1 - f) * B) (p + m) ≡ x → when x 24 ≡ payloadNumber B (length xs) (tables B xs) s p m
-      unfolding siteCheck
-      last-test p m x q =
-          site B (length xs) (tables B xs) s p m h o
-          (on 23 (ap not (is-used ∙ ap not qz))
-          (sym (ap (λ (i : ℕ). when (ltb ((i + 1 - firstOf (entry (tables B xs .front .array) (s - 1))) * B) (p + m)) 24) (sym is-last)
-          ∙ ap (λ (i : ℕ). when (ltb ((l + 1 - i) * B) (p + m)) 24) (sym is-first)
-          ∙ ap (λ (b : Bool). when b 24) q)))
+pub span-last : (B n f l : ℕ) → 1 ≤ B → Spanned B n f l → l + 1 ≤ n
+span-last B n f l h s = omega (arith, mul-le-mul-left (l + 1) h, s .end)
 
-      pub pay-24 : (p m : ℕ) → (l + 1 - f) * B < p + m → 24 ≡ payloadNumber B (length xs) (tables B xs) s p m
-      pay-24 p m q = last-test p m true (lt-ltb _ _ q)
+-- the two ways of the test
+module _ (w p m : ℕ) (v : BytePlace) where
+  pub past-end : w < p + m → refuse 24 ≡ pick (ltb w (p + m)) (refuse 24) (accepted v)
+  past-end h = rw (lt-ltb _ _ h)
 
-      pub pay-0 : (p m : ℕ) → p + m ≤ (l + 1 - f) * B → 0 ≡ payloadNumber B (length xs) (tables B xs) s p m
-      pay-0 p m q = last-test p m false (le-ltb _ _ q)
+  pub before-end : p + m ≤ w → {x : BytePlace} → x ≡ v → accepted x ≡ pick (ltb w (p + m)) (refuse 24) (accepted v)
+  before-end h e = rw (le-ltb _ _ h) (ap accepted e)
 
--- ---- the store
+-- ---- the call's tests in their order
 
-module _ (B : ℕ) (xs : List ℕ) (s p : ℕ) (ys : List ℕ) (h : payloadNumber B (length xs) (tables B xs) s p (length ys) ≡ 0) where
-  pub pay-place : Site B (length xs) s
-  pay-place = pay-site B xs s (pay-clear B (length xs) (tables B xs) s p (length ys) h)
+named-used : (B n : ℕ) (t : Tables) (s : ℕ) → Named (usedCheck B n t s)
+unfolding usedCheck
+named-used B n t s = named-else (slotCheck B n t s) _ (named-slot B n t s) (named-when (not (used (slotEntry t s))) _ (named-is EmptySlot))
 
-  module _ {at f : ℕ} (ka : at ≡ B + B + 128 * (s - 1)) (kf : f ≡ num xs (at + 32) 8) where
-    pub place-is : f * B + p ≡ payloadPlace B (tables B xs) s p
-    unfolding tablesAt
-    place-is = ap (λ (i : ℕ). i * B + p) (own-first xs (B + B) (s - 1) (pay-place .slot) (kf ∙ ap (λ (i : ℕ). num xs (i + 32) 8) ka))
+module _ (B n : ℕ) (t : Tables) (s p m : ℕ) (v : BytePlace) {f : Why} (e : f ≡ usedCheck B n t s) where
+  pub pay-refused : {r : Refusal} → (f .number ≡ 0 → ⊥) → r ≡ refusalOf f → _≡_ {A = Answer BytePlace} (refusedBy r) (judged (payloadCheck B n t s p m) v)
+  unfolding payloadCheck
+  pay-refused {r} d q =
+      let k : f ≡ payloadCheck B n t s p m = found _ e d in
+      let w : why r ≡ f = ap why q ∙ ap (λ (x : Why). why (refusalOf x)) e ∙ named-used B n t s .name (λ z. d (ap (λ (x : Why). x .number) e ∙ z)) ∙ sym e in
+      ap refused (w ∙ k) ∙ sym (judged-some v (payloadCheck B n t s p m) (λ z. d (ap (λ (x : Why). x .number) k ∙ z)))
 
-    pub pay-inside : f * B + p + length ys ≤ length xs
-    pay-inside = omega (arith, place-is, pay-fits B (length xs) xs refl s p ys h)
-
-    pub pay-stored : {i : List ℕ} → i ≡ sets xs (f * B + p) ys → i ≡ sets xs (payloadPlace B (tables B xs) s p) ys
-    pay-stored q = q ∙ ap (λ (at : ℕ). sets xs at ys) place-is
+  pub pay-placed : {a : Answer BytePlace} → f .number ≡ 0 → a ≡ pick (ltb (partitionBytes B (slotEntry t s)) (p + m)) (refuse 24) (accepted v) → a ≡ judged (payloadCheck B n t s p m) v
+  unfolding payloadCheck judged
+  pay-placed {a} z q =
+      q ∙ by (ltb (partitionBytes B (slotEntry t s)) (p + m))
+      ∙ ap (λ (w : Why). judged w v) (past {f = f} {m = when (ltb (partitionBytes B (slotEntry t s)) (p + m)) (plain 24)} e z refl)
+    where
+      by : (x : Bool) → pick x (refuse 24) (accepted v) ≡ judged (when x (plain 24)) v
+      by true = refl
+      by false = refl
 
 -- ---- the ends of the call
 
--- a refusal, of a call that answers with a value
-abbrev carry : {A : Type 0} → A → Answer Unit → Answer A
-carry v (accepted u) = accepted v
-carry v (refused w) = refused w
-
-carried : {A : Type 0} (v : A) (k s : ℕ) → carry v (judged k s tt) ≡ judged k s v
+judged-refused : {A : Type 0} (v : A) (k : Why) {w : Why} → refused w ≡ judged k v → (k .number ≡ 0 → ⊥) × (w ≡ k)
 unfolding judged
-carried v zero s = refl
-carried v (suc k) s = refl
+judged-refused {A} v k {w} e = by (k .number) e
+  where
+    by : (n : ℕ) → _≡_ {A = Answer A} (refused w) (ifZero n (accepted v) (refused k)) → (n ≡ 0 → ⊥) × (w ≡ k)
+    by zero q = let z : _≡_ {A = ℕ} 0 1 = cc in absurd (omega arith)
+    by (suc n) q = (λ z. omega arith, cc)
 
-pub pay-refuses : (B : ℕ) (xs : List ℕ) (s p : ℕ) (ys : List ℕ) {k : ℕ} {w : Why} → k ≡ payloadNumber B (length xs) (tables B xs) s p (length ys)
-    → _≡_ {A = Answer Unit} (refused w) (judged k 0 tt) → Ends (payloadAt B (length xs) xs s p ys) (refused w) xs
-unfolding payloadAt
-pay-refuses B xs s p ys h q = ends (settled (length ys) _ 0 xs _ (ap (carry (length ys)) q ∙ carried (length ys) _ 0 ∙ ap (λ (i : ℕ). judged i 0 (length ys)) h))
+judged-accepted : {A : Type 0} (v : A) (k : Why) {x : A} → accepted x ≡ judged k v → (k .number ≡ 0) × (x ≡ v)
+judged-accepted {A} v k {x} e =
+    let z : k .number ≡ 0 = judged-zero v k x (sym e) in
+    let q : _≡_ {A = Answer A} (accepted x) (accepted v) = e ∙ judged-none v k z in
+    (z, cc)
 
-pub pay-fine : (B : ℕ) (xs : List ℕ) (s p m : ℕ) {k : ℕ} → k ≡ payloadNumber B (length xs) (tables B xs) s p m → _≡_ {A = Answer Unit} (judged k 0 tt) (accepted tt)
-    → payloadNumber B (length xs) (tables B xs) s p m ≡ 0
-pay-fine B xs s p m h q = sym h ∙ judged-zero tt _ 0 tt q
+module _ (B : ℕ) (xs : List ℕ) (s p : ℕ) (ys : List ℕ) where
+  pub pay-refuses : {w : Why} → _≡_ {A = Answer BytePlace} (refused w) (judged (payloadCheck B (length xs) (tables B xs) s p (length ys)) (record { 0 = payloadPlace B (tables B xs) s p }))
+      → Ends (payloadAt B (length xs) xs s p ys) (refused w) xs
+  unfolding payloadAt
+  pay-refuses {w} q =
+      let k = judged-refused _ (payloadCheck B (length xs) (tables B xs) s p (length ys)) q in
+      ends (settle-refused (length ys) _ xs _ (k .0) ∙ ap (λ (u : Why). gives (refused u) xs) (sym (k .1)))
+
+  module _ {at : BytePlace} (q : _≡_ {A = Answer BytePlace} (accepted at) (judged (payloadCheck B (length xs) (tables B xs) s p (length ys)) (record { 0 = payloadPlace B (tables B xs) s p }))) where
+    told : (payloadCheck B (length xs) (tables B xs) s p (length ys) .number ≡ 0) × (at ≡ record { 0 = payloadPlace B (tables B xs) s p })
+    told = judged-accepted _ (payloadCheck B (length xs) (tables B xs) s p (length ys)) q
+
+    pub pay-inside : at .0 + length ys ≤ length xs
+    unfolding payloadCheck
+    pay-inside =
+        let h = told .0 in
+        let u = else-first (usedCheck B (length xs) (tables B xs) s) _ h in
+        let sp = used-spanned B xs s u in
+        let c : ltb (partitionBytes B (slotEntry (tables B xs) s)) (p + length ys) ≡ false = none-when _ (plain 24) tt (else-second (usedCheck B (length xs) (tables B xs) s) _ h) in
+        let e = ap (λ (x : BytePlace). x .0) (told .1) in
+        let f : ℕ = firstOf (slotEntry (tables B xs) s) in
+        let l : ℕ = lastOf (slotEntry (tables B xs) s) in
+        omega (arith, e, ltb-false (partitionBytes B (slotEntry (tables B xs) s)) (p + length ys) c, span-bytes B (length xs) f l sp, span-order B (length xs) f l sp, sp .end)
+
+    pub pay-accepts : {i : List ℕ} → i ≡ sets xs (at .0) ys → Ends (payloadAt B (length xs) xs s p ys) (accepted (length ys)) i
+    unfolding payloadAt
+    pay-accepts {i} e =
+        ends (settle-accepted (length ys) _ xs _ (told .0)
+        ∙ ap (λ (x : List ℕ). gives (accepted (length ys)) x) (sym (e ∙ ap (λ (x : BytePlace). sets xs (x .0) ys) (told .1))))

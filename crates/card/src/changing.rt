@@ -1,108 +1,60 @@
-// What put and clear test, and the change that they make: 128 bytes of one slot in both arrays, under lay's headers with the GUID kept.
-use partition::Partition;
+// What put tests of a record, and the change that put and clear make: 128 bytes of one slot in both tables, under lay's headers with the GUID kept.
+// `copy` is one table's own b + 16,384 bytes, as in `tables::inner`; `len` is the card's length in bytes; e is the 128 bytes of an entry.
 use units::BytePlace;
 use units::Guid;
 use units::Lba;
-use units::Refusal;
 use units::Slot;
-use units::Verdict;
+use units::why;
+use units::why::Why;
 ghost use mathlib.Core.Path.{_≡_};
-ghost use mathlib.Core.Bool.{true, false, not, _||_};
+ghost use mathlib.Core.Bool.{true, false};
 ghost use mathlib.Core.List.{List};
 ghost use Prim.Native.Nat.{ℕ, _+_, _*_, _-_, _≤_};
-ghost use lib.Dec.{ltb};
 ghost use lib.ListN.{length};
 ghost use lib.Seq.{sets};
+ghost use Rattle.units.proofs.Chains.{found};
 ghost use Rattle.units.specs.Bytes.{part};
 ghost use Rattle.units.specs.Guids.{guidBytes};
-ghost use Rattle.units.specs.Meanings.{verdictMeans};
 ghost use Rattle.crc32.specs.Crc.{crc};
 ghost use Rattle.crc32.specs.Rows.{Rows};
-ghost use Rattle.tables.specs.Checks.{when, orElse};
-ghost use Rattle.tables.specs.Places.{firstUsable, lastUsable, backArray};
-ghost use Rattle.tables.specs.Lens.{tables, withTables};
+ghost use Rattle.tables.specs.Lens.{Front, sideOf, copyIn, tables, withTables};
 ghost use Rattle.tables.specs.Entries.{setEntry, used, firstOf, lastOf};
-ghost use Rattle.tables.specs.Check.{roomCheck, guidOf, check};
-ghost use Rattle.tables.specs.Calls.{judged, badSlot, meets, changed, clearNumber, putNumber, putSlot, putBytes};
+ghost use Rattle.tables.specs.Check.{roomCheck, tableCheck, guidOf, check, badSlot};
+ghost use Rattle.card.specs.Calls.{recordCheck, firstOverlap, entryCheck, putCheck, changedBytes, changed};
 
-// Whether a slot is not one of the card's.
-fn bad_slot(slot: Slot) -> bool
-    ensures { λ r. ⌜ r ≡ badSlot (slot .0) ⌝ }
+// 18 no such slot, 19 nil type, 20 last before first, 21 outside the usable blocks.
+fn record_check(e: &[u8], slot: Slot, len: usize, b: u64) -> Why
+    requires { ⌜ (roomCheck b len .number ≡ 0) × (length (now e) ≡ 128) ⌝ }
+    ensures { λ r. ⌜ r ≡ recordCheck b len (slot .0) (now (e .entry)) ⌝ }
 {
-    (slot.0 < 1) | (128 < slot.0)
-}
-
-// The number of clear: 18 after the check.
-pub fn clear_number<'a>(t: &'a [u32; 4096], img: &'a [u8], b: u64, slot: Slot) -> u32
-    requires { ⌜ Rows 16 (now t) ⌝ }
-    ensures { λ r. ⌜ r ≡ clearNumber b (length (now (img .entry))) (tables b (now (img .entry))) (slot .0) ⌝ }
-{
-    let found = checking::inner::check_with(t, img, b);
-    if found != 0 {
-        return found;
+    if tables::inner::bad_slot(slot) {
+        return why::BAD_SLOT;
     }
-    if bad_slot(slot) {
-        return 18;
+    if partition::inner::nil_type_at(e, BytePlace(0)) {
+        return why::NIL_TYPE;
     }
-    0
-}
-
-// The 128 bytes of a record, its name cleared.
-pub fn record_bytes(p: Partition) -> [u8; 128]
-    ensures { λ r. ⌜ (r ≡ putBytes p) × (length r ≡ 128) ⌝ }
-{
-    let part_type_guid = p.part_type_guid;
-    let part_guid = p.part_guid;
-    let first_lba = p.first_lba;
-    let last_lba = p.last_lba;
-    let raw = p.name;
-    let name = partition::inner::clear_name(raw);
-    let named = Partition {
-        part_type_guid,
-        part_guid,
-        first_lba,
-        last_lba,
-        flags: p.flags,
-        name,
-    };
-    let mut e = [0u8; 128];
-    partition::inner::put_entry(&mut e, 0, named);
-    e
-}
-
-// 18, 19, 20, 21 of a record's bytes, in an image of len bytes.
-fn record_number(e: &[u8], slot: Slot, len: usize, b: u64) -> u32
-    requires { ⌜ (roomCheck b len ≡ 0) × (length (now e) ≡ 128) ⌝ }
-    ensures { λ r. ⌜ r ≡ orElse (when (badSlot (slot .0)) 18) (orElse (when (not (used (now (e .entry)))) 19) (orElse (when (ltb (lastOf (now (e .entry))) (firstOf (now (e .entry)))) 20) (when (ltb (firstOf (now (e .entry))) (firstUsable b) || ltb (lastUsable b len) (lastOf (now (e .entry)))) 21))) ⌝ }
-{
-    if bad_slot(slot) {
-        return 18;
-    }
-    if units::inner::all_zero(e, 0, 16) {
-        return 19;
-    }
-    let first = Lba(units::inner::u64_at(e, 32));
-    let last = Lba(units::inner::u64_at(e, 40));
+    let first = partition::inner::first_at(e, BytePlace(0));
+    let last = partition::inner::last_at(e, BytePlace(0));
     if last.0 < first.0 {
-        return 20;
+        return why::BAD_RANGE;
     }
     let low = tables::inner::first_usable(b);
     let high = tables::inner::last_usable(len, b);
     if (first.0 < low.0) | (high.0 < last.0) {
-        return 21;
+        return why::OUTSIDE_USABLE;
     }
-    0
+    why::FINE
 }
 
-// The lowest entry but k, in the array at a place, that shares a block with a used entry that has the blocks from first to last, or 128.
-fn first_met(img: &[u8], at: BytePlace, k: u32, first: Lba, last: Lba) -> u32
-    requires { ⌜ at .0 + 16384 ≤ length (now img) ⌝ }
-    ensures { λ r. ⌜ ((e : List ℕ) → used e ≡ true → first .0 ≡ firstOf e → last .0 ≡ lastOf e → r ≡ meets (part (now (img .entry)) (at .0) 16384) k e) ⌝ }
+// Array place of the lowest entry other than k that overlaps the blocks first to last, in the array at a place; 128 if there is none.
+fn first_overlap(copy: &[u8], at: BytePlace, k: u32, first: Lba, last: Lba) -> u32
+    requires { ⌜ at .0 + 16384 ≤ length (now copy) ⌝ }
+    ensures { λ r. ⌜ ((e : List ℕ) → used e ≡ true → first .0 ≡ firstOf e → last .0 ≡ lastOf e → r ≡ firstOverlap (part (now (copy .entry)) (at .0) 16384) k e) ⌝ }
 {
     let mut j = 0;
     while j < 128 {
-        let place = checking::inner::entry_place(at, j as usize);
-        let met = checking::inner::meets(img, place, first, last);
+        let place = partition::inner::entry_place(at, j as usize);
+        let met = checking::inner::overlaps(copy, place, first, last);
         if (j != k) & met {
             return j;
         }
@@ -111,74 +63,189 @@ fn first_met(img: &[u8], at: BytePlace, k: u32, first: Lba, last: Lba) -> u32
     128
 }
 
-// What put tests, of the record's bytes. 22 has the lowest slot.
-pub fn put_test<'a>(t: &'a [u32; 4096], img: &'a [u8], b: u64, slot: Slot, e: &'a [u8]) -> Verdict
+// What put tests after the check: the record, and 22 with the lowest other slot of the front table that shares a block.
+pub fn entry_check<'a>(front: &'a [u8], len: usize, b: u64, slot: Slot, e: &'a [u8]) -> Why
+    requires { ⌜ (roomCheck b len .number ≡ 0) × (length (now front) ≡ b + 16384) × (length (now e) ≡ 128) ⌝ }
+    ensures { λ r. ⌜ r ≡ entryCheck b len (copyIn b Front (now (front .entry)) .array) (slot .0) (now (e .entry)) ⌝ }
+{
+    let wrong = record_check(e, slot, len, b);
+    if wrong.number != 0 {
+        return wrong;
+    }
+    let first = partition::inner::first_at(e, BytePlace(0));
+    let last = partition::inner::last_at(e, BytePlace(0));
+    let array = tables::inner::array_in(b, false);
+    let k = units::inner::array_place(slot);
+    let j = first_overlap(front, array, k, first, last);
+    if j < 128 {
+        return Why {
+            number: 22,
+            slot: units::inner::slot_at(j),
+            place: 0,
+        };
+    }
+    why::FINE
+}
+
+// All that put tests, of an image.
+pub fn put_check<'a>(t: &'a [u32; 4096], img: &'a [u8], b: u64, slot: Slot, e: &'a [u8]) -> Why
     requires { ⌜ Rows 16 (now t) × (length (now e) ≡ 128) ⌝ }
-    ensures { λ r. ⌜ verdictMeans r ≡ judged (putNumber b (length (now (img .entry))) (tables b (now (img .entry))) (slot .0) (now (e .entry))) (putSlot b (length (now (img .entry))) (tables b (now (img .entry))) (slot .0) (now (e .entry))) tt ⌝ }
+    ensures { λ r. ⌜ r ≡ putCheck b (length (now (img .entry))) (tables b (now (img .entry))) (slot .0) (now (e .entry)) ⌝ }
 {
     let found = checking::inner::check_with(t, img, b);
-    if found != 0 {
-        return tables::inner::verdict_of(found);
+    if found.number != 0 {
+        return found;
     }
-    let wrong = record_number(e, slot, img.len(), b);
-    if wrong != 0 {
-        return tables::inner::verdict_of(wrong);
-    }
-    let first = Lba(units::inner::u64_at(e, 32));
-    let last = Lba(units::inner::u64_at(e, 40));
-    let array = tables::inner::array_place(img.len(), b, false);
-    let j = first_met(img, array, units::inner::array_place(slot), first, last);
-    if j < 128 {
-        return Verdict::Refused(Refusal::Overlap(units::inner::slot_at(j)));
-    }
-    Verdict::Accepted
+    let size = b as usize;
+    entry_check(&img[size..size + (size + 16384)], img.len(), b, slot, e)
 }
 
-// The disk GUID of the front header.
-fn kept_guid(img: &[u8], b: u64) -> Guid
-    requires { ⌜ roomCheck b (length (now img)) ≡ 0 ⌝ }
-    ensures { λ r. ⌜ guidBytes r ≡ guidOf (tables b (now (img .entry)) .front) ⌝ }
+// The disk GUID in a copy's header.
+fn kept_guid(copy: &[u8], b: u64, back: bool) -> Guid
+    requires { ⌜ (92 ≤ b) × (length (now copy) ≡ b + 16384) ⌝ }
+    ensures { λ r. ⌜ guidBytes r ≡ guidOf (copyIn b (sideOf back) (now (copy .entry))) ⌝ }
 {
-    let front = tables::inner::header_place(img.len(), b, false);
-    units::inner::guid_at(img, front.0 + 56)
+    let at = tables::inner::header_in(back);
+    units::inner::guid_at(copy, at.0 + 56)
 }
 
-// The bytes of a slot's entry, stored in both arrays.
-fn put_slots(img: &mut [u8], b: u64, slot: Slot, e: &[u8])
-    requires { ⌜ (roomCheck b (length (now img)) ≡ 0) × (badSlot (slot .0) ≡ false) ⌝ }
-    requires { ⌜ length (now e) ≡ 128 ⌝ }
-    ensures { λ _. ⌜ now (img .exit) ≡ sets (sets (now (img .entry)) (b + b + 128 * (slot .0 - 1)) (now (e .entry))) (backArray b (length (now (img .entry))) + 128 * (slot .0 - 1)) (now (e .entry)) ⌝ }
+// How many bytes of the array follow a slot's entry.
+fn bytes_after(slot: Slot) -> usize
+    requires { ⌜ badSlot (slot .0) ≡ false ⌝ }
+    ensures { λ r. ⌜ r ≡ 128 * (128 - slot .0) ⌝ }
 {
-    let front = tables::inner::slot_place(img.len(), b, false, slot);
-    let back = tables::inner::slot_place(img.len(), b, true, slot);
-    units::inner::put_bytes(img, front.0, e);
-    units::inner::put_bytes(img, back.0, e);
+    let k = units::inner::array_place(slot);
+    128 * (127 - k as usize)
 }
 
-// The front array's sum once a slot has other bytes, from the sum in the front header, which the check has just confirmed.
-fn sum_with<'a>(t: &'a [u32; 4096], img: &'a [u8], b: u64, slot: Slot, e: &'a [u8]) -> u32
+// The sum of a copy's array once a slot has other bytes, from the sum in its header, which the check has just confirmed.
+fn sum_with<'a>(
+    t: &'a [u32; 4096],
+    copy: &'a [u8],
+    len: usize,
+    b: u64,
+    back: bool,
+    slot: Slot,
+    e: &'a [u8],
+) -> u32
     requires { ⌜ Rows 16 (now t) ⌝ }
-    requires { ⌜ check b (length (now img)) (tables b (now img)) ≡ 0 ⌝ }
+    requires { ⌜ (roomCheck b len .number ≡ 0) × (length (now copy) ≡ b + 16384) ⌝ }
+    requires { ⌜ tableCheck b len (sideOf back) (copyIn b (sideOf back) (now copy)) .number ≡ 0 ⌝ }
     requires { ⌜ (badSlot (slot .0) ≡ false) × (length (now e) ≡ 128) ⌝ }
-    ensures { λ r. ⌜ r ≡ crc (setEntry (tables b (now (img .entry)) .front .array) (slot .0 - 1) (now (e .entry))) ⌝ }
+    ensures { λ r. ⌜ r ≡ crc (setEntry (copyIn b (sideOf back) (now (copy .entry)) .array) (slot .0 - 1) (now (e .entry))) ⌝ }
 {
-    let header = tables::inner::header_place(img.len(), b, false);
-    let sum = units::inner::u32_at(img, header.0 + 88);
-    let place = tables::inner::slot_place(img.len(), b, false, slot);
+    let header = tables::inner::header_in(back);
+    let sum = units::inner::u32_at(copy, header.0 + 88);
+    let place = tables::inner::slot_in(b, back, slot);
     let at = place.0;
-    let after = 128 * (128 - slot.0 as usize);
-    slot_sum::inner::sum_after(t, sum, &img[at..at + 128], e, after)
+    let after = bytes_after(slot);
+    slot_sum::inner::sum_after(t, sum, &copy[at..at + 128], e, after)
 }
 
-// The whole change, on a card that the check accepts: the new sum comes from the old one and the slot's bytes, before these are stored.
+// The change of one copy: the slot's bytes, and then the header's block.
+pub fn change_copy<'a>(
+    t: &'a [u32; 4096],
+    copy: &mut [u8],
+    len: usize,
+    b: u64,
+    back: bool,
+    slot: Slot,
+    e: &'a [u8],
+    guid: Guid,
+    parts: u32,
+)
+    requires { ⌜ Rows 16 (now t) ⌝ }
+    requires { ⌜ (roomCheck b len .number ≡ 0) × (length (now copy) ≡ b + 16384) ⌝ }
+    requires { ⌜ (badSlot (slot .0) ≡ false) × (length (now e) ≡ 128) ⌝ }
+    ensures { λ _. ⌜ now (copy .exit) ≡ changedBytes b len (sideOf back) (now (copy .entry)) (slot .0) (now (e .entry)) guid parts ⌝ }
+{
+    tables::inner::put_slot(copy, b, back, slot, e);
+    tables::inner::put_header(t, copy, len, b, back, guid, parts);
+}
+
+// The same of the copy at a place of an image.
+fn change_at<'a>(
+    t: &'a [u32; 4096],
+    s: &mut [u8],
+    place: BytePlace,
+    len: usize,
+    b: u64,
+    back: bool,
+    slot: Slot,
+    e: &'a [u8],
+    guid: Guid,
+    parts: u32,
+)
+    requires { ⌜ Rows 16 (now t) ⌝ }
+    requires { ⌜ (roomCheck b len .number ≡ 0) × (place .0 + (b + 16384) ≤ length (now s)) ⌝ }
+    requires { ⌜ (badSlot (slot .0) ≡ false) × (length (now e) ≡ 128) ⌝ }
+    ensures { λ _. ⌜ now (s .exit) ≡ sets (now (s .entry)) (place .0) (changedBytes b len (sideOf back) (part (now (s .entry)) (place .0) (b + 16384)) (slot .0) (now (e .entry)) guid parts) ⌝ }
+{
+    let at = place.0;
+    let size = b as usize;
+    change_copy(
+        t,
+        &mut s[at..at + (size + 16384)],
+        len,
+        b,
+        back,
+        slot,
+        e,
+        guid,
+        parts,
+    );
+}
+
+// The disk GUID of the front table, in an image or in whatever begins like one.
+fn front_guid(s: &[u8], b: u64) -> Guid
+    requires { ⌜ (92 ≤ b) × (b ≤ 4096) × (b + (b + 16384) ≤ length (now s)) ⌝ }
+    ensures { λ r. ⌜ guidBytes r ≡ guidOf (copyIn b Front (part (now (s .entry)) b (b + 16384))) ⌝ }
+{
+    let size = b as usize;
+    kept_guid(&s[size..size + (size + 16384)], b, false)
+}
+
+// The front array's sum once a slot has other bytes.
+fn front_sum<'a>(
+    t: &'a [u32; 4096],
+    s: &'a [u8],
+    len: usize,
+    b: u64,
+    slot: Slot,
+    e: &'a [u8],
+) -> u32
+    requires { ⌜ Rows 16 (now t) ⌝ }
+    requires { ⌜ (roomCheck b len .number ≡ 0) × (b + (b + 16384) ≤ length (now s)) ⌝ }
+    requires { ⌜ tableCheck b len Front (copyIn b Front (part (now s) b (b + 16384))) .number ≡ 0 ⌝ }
+    requires { ⌜ (badSlot (slot .0) ≡ false) × (length (now e) ≡ 128) ⌝ }
+    ensures { λ r. ⌜ r ≡ crc (setEntry (copyIn b Front (part (now (s .entry)) b (b + 16384)) .array) (slot .0 - 1) (now (e .entry))) ⌝ }
+{
+    let size = b as usize;
+    sum_with(t, &s[size..size + (size + 16384)], len, b, false, slot, e)
+}
+
+// The whole change of an image that the check accepts, the back table first. The new sum comes from the old one and the slot's bytes, before these are stored.
 pub fn change<'a>(t: &'a [u32; 4096], img: &mut [u8], b: u64, slot: Slot, e: &'a [u8])
     requires { ⌜ Rows 16 (now t) ⌝ }
-    requires { ⌜ check b (length (now img)) (tables b (now img)) ≡ 0 ⌝ }
+    requires { ⌜ check b (length (now img)) (tables b (now img)) .number ≡ 0 ⌝ }
     requires { ⌜ (badSlot (slot .0) ≡ false) × (length (now e) ≡ 128) ⌝ }
     ensures { λ _. ⌜ now (img .exit) ≡ withTables b (now (img .entry)) (changed b (length (now (img .entry))) (tables b (now (img .entry))) (slot .0) (now (e .entry))) ⌝ }
 {
-    let guid = kept_guid(img, b);
-    let parts = sum_with(t, img, b, slot, e);
-    put_slots(img, b, slot, e);
-    tables::inner::put_header_blocks(t, img, b, guid, parts);
+    let len = img.len();
+    let back = tables::inner::back_place(len, b);
+    let guid = front_guid(img, b);
+    let parts = front_sum(t, img, len, b, slot, e);
+    change_at(t, img, back, len, b, true, slot, e, guid, parts);
+    change_at(
+        t,
+        img,
+        BytePlace(b as usize),
+        len,
+        b,
+        false,
+        slot,
+        e,
+        guid,
+        parts,
+    );
 }

@@ -1,19 +1,22 @@
-// What lay stores, once the image is known to have room: the protective MBR, two arrays of zeros, and both header blocks.
+// What lay stores, once the image is known to have room: the protective MBR, and in each table an array of zeros and its header's block.
+// `copy` is one table's own b + 16,384 bytes, as in `tables::inner`; `len` is the card's length in bytes.
 use mbr::ProtectiveMbr;
+use units::BytePlace;
 use units::Guid;
 use units::Lba;
 ghost use mathlib.Core.Path.{_≡_};
-ghost use Prim.Native.Nat.{_+_, _-_, _≤_};
+ghost use Prim.Native.Nat.{_+_, _≤_};
 ghost use lib.Dec.{ltb};
 ghost use lib.ListN.{length};
 ghost use lib.Seq.{sets};
 ghost use Rattle.units.specs.Answer.{pick};
 ghost use Rattle.units.specs.Guids.{guidBytes};
-ghost use Rattle.tables.specs.Places.{blocks, backArray, backHeader};
+ghost use Rattle.crc32.specs.Rows.{Rows};
+ghost use Rattle.tables.specs.Lens.{sideOf, copyBytes};
 ghost use Rattle.tables.specs.Entries.{zeros};
-ghost use Rattle.tables.specs.Headers.{Front, Back, copyOf};
+ghost use Rattle.tables.specs.Headers.{copyOf};
 ghost use Rattle.tables.specs.Check.{roomCheck};
-ghost use Rattle.tables.specs.Calls.{mbr};
+ghost use Rattle.card.specs.Calls.{mbr, laidImage};
 
 // The size of the protective record, for a backup in the last block.
 fn record_size(last: Lba) -> u32
@@ -35,26 +38,46 @@ fn put_mbr(img: &mut [u8], last: Lba)
     m.overwrite_lba0(img);
 }
 
-// Zeros over both arrays.
-fn put_arrays(img: &mut [u8], b: u64)
-    requires { ⌜ roomCheck b (length (now img)) ≡ 0 ⌝ }
-    ensures { λ _. ⌜ now (img .exit) ≡ sets (sets (now (img .entry)) (b + b) (zeros 16384)) (backArray b (length (now (img .entry)))) (zeros 16384) ⌝ }
+// Lays one copy: zeros over the array, and the header's block with the array's sum.
+pub fn lay_copy(t: &[u32; 4096], copy: &mut [u8], len: usize, b: u64, back: bool, guid: Guid)
+    requires { ⌜ Rows 16 (now t) ⌝ }
+    requires { ⌜ (roomCheck b len .number ≡ 0) × (length (now copy) ≡ b + 16384) ⌝ }
+    ensures { λ _. ⌜ now (copy .exit) ≡ copyBytes (sideOf back) (copyOf b len (sideOf back) (guidBytes guid) (zeros 16384)) ⌝ }
 {
-    let front = tables::inner::array_place(img.len(), b, false);
-    let back = tables::inner::array_place(img.len(), b, true);
-    tables::inner::put_zeros(img, front, 16384);
-    tables::inner::put_zeros(img, back, 16384);
+    let array = tables::inner::array_in(b, back);
+    units::inner::put_zeros(copy, array.0, 16384);
+    let parts = tables::inner::array_sum(t, copy, b, back);
+    tables::inner::put_header(t, copy, len, b, back, guid, parts);
+}
+
+// The same of the copy at a place of an image.
+fn lay_at(
+    t: &[u32; 4096],
+    s: &mut [u8],
+    place: BytePlace,
+    len: usize,
+    b: u64,
+    back: bool,
+    guid: Guid,
+)
+    requires { ⌜ Rows 16 (now t) ⌝ }
+    requires { ⌜ (roomCheck b len .number ≡ 0) × (place .0 + (b + 16384) ≤ length (now s)) ⌝ }
+    ensures { λ _. ⌜ now (s .exit) ≡ sets (now (s .entry)) (place .0) (copyBytes (sideOf back) (copyOf b len (sideOf back) (guidBytes guid) (zeros 16384))) ⌝ }
+{
+    let at = place.0;
+    let size = b as usize;
+    lay_copy(t, &mut s[at..at + (size + 16384)], len, b, back, guid);
 }
 
 // All that lay stores.
 pub fn lay_card(img: &mut [u8], b: u64, guid: Guid)
-    requires { ⌜ roomCheck b (length (now img)) ≡ 0 ⌝ }
-    ensures { λ _. ⌜ now (img .exit) ≡ sets (sets (sets (sets (sets (now (img .entry)) 0 (mbr (blocks b (length (now (img .entry))) - 1))) b (copyOf b (length (now (img .entry))) Front (guidBytes guid) (zeros 16384) .header)) (b + b) (zeros 16384)) (backArray b (length (now (img .entry)))) (zeros 16384)) (backHeader b (length (now (img .entry)))) (copyOf b (length (now (img .entry))) Back (guidBytes guid) (zeros 16384) .header) ⌝ }
+    requires { ⌜ roomCheck b (length (now img)) .number ≡ 0 ⌝ }
+    ensures { λ _. ⌜ now (img .exit) ≡ laidImage b (length (now (img .entry))) (now (img .entry)) (guidBytes guid) ⌝ }
 {
-    let last = tables::inner::own_block(img.len(), b, true);
+    let len = img.len();
     let t = crc32::inner::table();
-    put_mbr(img, last);
-    put_arrays(img, b);
-    let parts = tables::inner::front_sum(&t, img, b);
-    tables::inner::put_header_blocks(&t, img, b, guid, parts);
+    let back = tables::inner::back_place(len, b);
+    put_mbr(img, tables::inner::own_block(len, b, true));
+    lay_at(&t, img, back, len, b, true, guid);
+    lay_at(&t, img, BytePlace(b as usize), len, b, false, guid);
 }

@@ -1,77 +1,77 @@
-// The card: both tables laid, checked, changed and listed together, and payload written inside a partition. What each call promises is in tables/specs.
+// The card: both tables laid, checked, changed and listed together, and payload written inside a partition. What each call promises is in specs/Calls.
 // Here stand the public calls: each takes every image and every number.
-mod changing; // changing.rt: what put and clear test and store
+mod changing; // changing.rt: what put tests, and what put and clear store
 mod laying; // laying.rt: what lay stores
-mod paying; // paying.rt: what a payload write tests and stores
+mod payload; // payload.rt: what a payload write tests, and where it stores
 
-pub use card_row::listing;
 pub use checking::check;
 pub use listing::count_used;
+pub use listing::listing;
 pub use listing::next_used;
 pub use listing::nth_used;
 pub use listing::read_slot;
 use partition::Partition;
 use units::BytePlace;
 use units::Guid;
+use units::Placed;
 use units::Slot;
 use units::Stored;
 use units::Verdict;
+ghost use Rattle.units.proofs.Chains.{found};
 ghost use Rattle.units.specs.Answer.{Ends};
 ghost use Rattle.units.specs.Meanings.{verdictMeans, storedMeans};
-ghost use Rattle.tables.specs.Calls.{layOutcome, putOutcome, clearOutcome, payloadOutcome};
+ghost use Rattle.card.specs.Calls.{layOutcome, putOutcome, clearOutcome, payloadOutcome};
 
-// Lays an empty card for a disk GUID, the MBR and both tables: 1, 8, 10.
+// Lays an empty card for a disk GUID, the MBR and both tables: 1 bad block size, 8 and 10 too small.
 pub fn lay(img: &mut [u8], b: u64, guid: Guid) -> Verdict
     ensures { λ r. ⌜ Ends (layOutcome b (now (img .entry)) guid) (verdictMeans r) (now (img .exit)) ⌝ }
 {
-    match tables::inner::verdict_of(tables::inner::room_number(img.len(), b)) {
-        Verdict::Refused(w) => Verdict::Refused(w),
-        Verdict::Accepted => {
-            laying::lay_card(img, b, guid);
-            Verdict::Accepted
-        }
+    let found = tables::inner::room_check(img.len(), b);
+    if found.number != 0 {
+        return found.verdict();
     }
+    laying::lay_card(img, b, guid);
+    Verdict::Accepted
 }
 
-// Puts a record into a slot of both tables, the GUID kept: 18, 19, 20, 21, 22 after the check. 22 has the lowest slot that shares a block.
+// Puts a record into a slot of both tables, the GUID kept: after the check 18 no such slot, 19 nil type, 20 last before first, 21 outside the usable blocks,
+// 22 with the lowest other slot that shares a block.
 pub fn put(img: &mut [u8], b: u64, slot: Slot, p: Partition) -> Verdict
     ensures { λ r. ⌜ Ends (putOutcome b (now (img .entry)) (slot .0) p) (verdictMeans r) (now (img .exit)) ⌝ }
 {
-    let e = changing::record_bytes(p);
+    let e = partition::inner::named_bytes(p);
     let t = crc32::inner::table();
-    match changing::put_test(&t, img, b, slot, &e) {
-        Verdict::Refused(w) => Verdict::Refused(w),
-        Verdict::Accepted => {
-            changing::change(&t, img, b, slot, &e);
-            Verdict::Accepted
-        }
+    let found = changing::put_check(&t, img, b, slot, &e);
+    if found.number != 0 {
+        return found.verdict();
     }
+    changing::change(&t, img, b, slot, &e);
+    Verdict::Accepted
 }
 
-// Clears a slot in both tables, the GUID kept: 18 after the check.
+// Clears a slot in both tables, the GUID kept: 18 no such slot, after the check.
 pub fn clear(img: &mut [u8], b: u64, slot: Slot) -> Verdict
     ensures { λ r. ⌜ Ends (clearOutcome b (now (img .entry)) (slot .0)) (verdictMeans r) (now (img .exit)) ⌝ }
 {
     let t = crc32::inner::table();
-    let found = changing::clear_number(&t, img, b, slot);
-    if found != 0 {
-        return tables::inner::verdict_of(found);
+    let found = checking::inner::slot_check(&t, img, b, slot);
+    if found.number != 0 {
+        return found.verdict();
     }
     let e = [0u8; 128];
     changing::change(&t, img, b, slot, &e);
     Verdict::Accepted
 }
 
-// Writes bytes at a place of a slot's partition, and nothing else: 18, 23, 24 after the check. It gives how many bytes it stored.
+// Writes bytes at a place of a slot's partition, and nothing else: 18 no such slot, 23 unused, 24 past the partition's end, after the check. It gives how many bytes it stored.
 pub fn write_payload(img: &mut [u8], b: u64, slot: Slot, place: BytePlace, bytes: &[u8]) -> Stored
     ensures { λ r. ⌜ Ends (payloadOutcome b (now (img .entry)) (slot .0) (place .0) (now (bytes .entry))) (storedMeans r) (now (img .exit)) ⌝ }
 {
     let n = bytes.len();
-    let found = paying::payload_number(img, b, slot, place, n);
-    match tables::inner::verdict_of(found) {
-        Verdict::Refused(w) => Stored::Refused(w),
-        Verdict::Accepted => {
-            paying::pay(img, b, slot, place, bytes);
+    match payload::payload_place(img, b, slot, place, n) {
+        Placed::Refused(w) => Stored::Refused(w),
+        Placed::At(at) => {
+            units::inner::put_bytes(img, at.0, bytes);
             Stored::Bytes(n)
         }
     }

@@ -4,14 +4,15 @@ use mathlib.Core.List.{List}
 use Prim.Native.Nat.{ℕ, _/_, _≤_, _<_}
 use borrow.Author.Tests.{lt-ltb, le-ltb}
 use lib.ListN.{length}
-use Rattle.units.specs.Answer.{Why, Answer, accepted, refused, refuse, andThen, Beside, beside, Outcome, Ends}
+use Rattle.units.specs.declared.why.Why.{Why}
+use Rattle.units.specs.Answer.{Answer, accepted, refused, refuse, andThen, Beside, beside, Outcome, Ends}
 use Rattle.partition.specs.Format.{entryAt}
 use Rattle.rows.specs.declared.Entry.{Entry}
 use Rattle.rows.specs.declared.inner.Plan.{Plan}
 use Rattle.rows.specs.Plans.{planned, roomed}
-use Rattle.row_bytes.specs.RowBytes.{bytesOutcome}
+use Rattle.rows.specs.RowBytes.{bytesOutcome}
 use Rattle.card_c.specs.declared.answers.GptCount.{GptCount}
-use Rattle.card_c.specs.Exports.{told, crossed, aside, answerToC, countToC, answered, entryParsed}
+use Rattle.card_c.specs.Exports.{outcomeToC, crossed, aside, answerToC, countToC, answered, entryParsed}
 
 module _ {A S : Type 0} (make : ℕ → A → S) (z : A) where
   pub crossed-fine : (a : Answer A) {x : A} → a ≡ accepted x → make 0 x ≡ crossed make z a
@@ -29,14 +30,14 @@ module _ {A S : Type 0} (make : ℕ → A → S) (z : A) where
   aside-crossed (refused w) = refl
 
 -- a call that ends in an outcome ends in the outcome so told
-pub told-ends : {A C : Type 0} (f : A → C) (o : Outcome A) {a : A} {r : C} {i : List ℕ} → Ends o a i → r ≡ f a → Ends (told f o) r i
+pub told-ends : {A C : Type 0} (f : A → C) (o : Outcome A) {a : A} {r : C} {i : List ℕ} → Ends o a i → r ≡ f a → Ends (outcomeToC f o) r i
 told-ends f o e q = record { answer = q ∙ ap f (e .answer); image = e .image }
 
 pub answer-fine : (a : Answer Unit) → a ≡ accepted tt → record { number = 0; slot = 0 } ≡ answerToC a
 unfolding answerToC
 answer-fine a e = sym (ap answerToC e)
 
-pub answer-no : (a : Answer Unit) {w : Why} {k s : ℕ} → a ≡ refused w → k ≡ w .number → s ≡ w .slot → record { number = k; slot = s } ≡ answerToC a
+pub answer-no : (a : Answer Unit) {w : Why} {k s : ℕ} → a ≡ refused w → k ≡ w .number → s ≡ w .slot .0 → record { number = k; slot = s } ≡ answerToC a
 unfolding answerToC
 answer-no a e q p = cc
 
@@ -68,5 +69,5 @@ entry-whole xs h = rw (le-ltb (length xs) 128 h)
 
 -- a plan carried out, told to C: what the plan says, with the 15 of the rows that the bytes have, is what is asked for
 pub rows-told : (xs out : List ℕ) (p : Plan) {said asked : Answer (List Entry)} → planned xs p ≡ said → roomed (length out / 136) said ≡ asked → {a : Answer ℕ} {r : GptCount} {ys : List ℕ}
-    → Ends (bytesOutcome (roomed (length out / 136) (planned xs p)) out) a ys → r ≡ countToC a → Ends (told countToC (bytesOutcome asked out)) r ys
+    → Ends (bytesOutcome (roomed (length out / 136) (planned xs p)) out) a ys → r ≡ countToC a → Ends (outcomeToC countToC (bytesOutcome asked out)) r ys
 rows-told xs out p e f g q = told-ends countToC _ (rw (e, f) at g) q

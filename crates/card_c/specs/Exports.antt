@@ -20,7 +20,7 @@ use Rattle.mbr.specs.Changing.{Changed}
 use Rattle.partition.specs.declared.Partition.{Partition}
 use Rattle.partition.specs.Array.{Found}
 use Rattle.partition.specs.Format.{entryAt, zeroPartition}
-use Rattle.tables.specs.Listing.{Listed}
+use Rattle.listing.specs.Listing.{Listed}
 use Rattle.listing.specs.Meanings.{Used, firstUsed}
 use Rattle.card_c.specs.declared.answers.CardAnswer.{CardAnswer}
 use Rattle.card_c.specs.declared.answers.GptStored.{GptStored}
@@ -43,8 +43,8 @@ use Rattle.card_c.specs.declared.mbrs.GptBootcodeRead.{GptBootcodeRead}
 use Rattle.card_c.specs.declared.mbrs.GptSignatureRead.{GptSignatureRead}
 
 -- an outcome with its answer told in another way
-abbrev pub told : {A C : Type 0} → (A → C) → Outcome A → Outcome C
-told f o = gives (f (o .answer)) (o .image)
+abbrev pub outcomeToC : {A C : Type 0} → (A → C) → Outcome A → Outcome C
+outcomeToC f o = gives (f (o .answer)) (o .image)
 
 -- a struct made of the number and the value; beside a refusal stands the value z
 unfoldable pub crossed : {A S : Type 0} → (ℕ → A → S) → A → Answer A → S
@@ -55,10 +55,10 @@ crossed make z (refused w) = make (w .number) z
 unfoldable pub aside : {A S : Type 0} → (ℕ → A → S) → Beside A → S
 aside make r = make (numberOf (r .verdict)) (r .value)
 
--- the slot is the one that 22 carries
+-- the slot is the one that 22 or 25 carries
 unfoldable pub answerToC : Answer Unit → CardAnswer
 answerToC (accepted u) = record { number = 0; slot = 0 }
-answerToC (refused w) = record { number = w .number; slot = w .slot }
+answerToC (refused w) = record { number = w .number; slot = w .slot .0 }
 
 abbrev pub storedToC : Answer ℕ → GptStored
 storedToC a = crossed (λ k n. record { number = k; bytes = n }) 0 a

@@ -10,7 +10,7 @@ ghost use Rattle.partition.specs.Meanings.{countMeans, nextMeans, readMeans};
 ghost use Rattle.listing.specs.Meanings.{usedMeans};
 ghost use Rattle.card_c.specs.Exports.{answerToC, storedToC, countToC, nextToC, aside, heldMade, usedMade};
 
-// The slot is the one that 22 carries, else 0.
+// The slot is the one that 22 and 25 carry, else 0.
 #[repr(C)]
 pub struct CardAnswer {
     pub number: u32,
@@ -60,6 +60,7 @@ fn slot_in(w: Refusal) -> u32
 {
     match w {
         Refusal::Overlap(s) => s.0,
+        Refusal::TwinGuid(s) => s.0,
         _ => 0,
     }
 }

@@ -14,16 +14,17 @@ ghost use mathlib.Core.Path.{_≡_};
 ghost use Prim.Native.Nat.{_/_};
 ghost use lib.ListN.{length};
 ghost use Rattle.units.specs.Answer.{Ends};
-ghost use Rattle.tables.specs.Calls.{layOutcome, checkAnswer, putOutcome, clearOutcome, payloadOutcome};
-ghost use Rattle.tables.specs.Listing.{countAnswer, nextAnswer, slotRead, nthAnswer};
-ghost use Rattle.card_row.specs.Listing.{listingRead};
-ghost use Rattle.row_bytes.specs.RowBytes.{bytesOutcome};
-ghost use Rattle.card_c.specs.Exports.{told, answerToC, storedToC, countToC, nextToC, heldToC, usedToC};
+ghost use Rattle.card.specs.Calls.{layOutcome, putOutcome, clearOutcome, payloadOutcome};
+ghost use Rattle.tables.specs.Check.{checkAnswer};
+ghost use Rattle.listing.specs.Listing.{countAnswer, nextAnswer, slotRead, nthAnswer};
+ghost use Rattle.listing.specs.LentRow.{listingRead};
+ghost use Rattle.rows.specs.RowBytes.{bytesOutcome};
+ghost use Rattle.card_c.specs.Exports.{outcomeToC, answerToC, storedToC, countToC, nextToC, heldToC, usedToC};
 
 // Lays an empty card: 1, 8, 10.
 #[no_mangle]
 pub extern "C" fn card_lay(img: &mut [u8], b: u64, guid: Guid) -> CardAnswer
-    ensures { λ r. ⌜ Ends (told answerToC (layOutcome b (now (img .entry)) guid)) r (now (img .exit)) ⌝ }
+    ensures { λ r. ⌜ Ends (outcomeToC answerToC (layOutcome b (now (img .entry)) guid)) r (now (img .exit)) ⌝ }
 {
     answers::answer_to_c(card::lay(img, b, guid))
 }
@@ -39,7 +40,7 @@ pub extern "C" fn card_check(img: &[u8], b: u64) -> CardAnswer
 // Puts a record into a slot of both tables: 18, 19, 20, 21, 22 after the check.
 #[no_mangle]
 pub extern "C" fn card_put(img: &mut [u8], b: u64, slot: u32, partition: Partition) -> CardAnswer
-    ensures { λ r. ⌜ Ends (told answerToC (putOutcome b (now (img .entry)) slot partition)) r (now (img .exit)) ⌝ }
+    ensures { λ r. ⌜ Ends (outcomeToC answerToC (putOutcome b (now (img .entry)) slot partition)) r (now (img .exit)) ⌝ }
 {
     answers::answer_to_c(card::put(img, b, Slot(slot), partition))
 }
@@ -47,7 +48,7 @@ pub extern "C" fn card_put(img: &mut [u8], b: u64, slot: u32, partition: Partiti
 // Clears a slot in both tables: 18 after the check.
 #[no_mangle]
 pub extern "C" fn card_clear(img: &mut [u8], b: u64, slot: u32) -> CardAnswer
-    ensures { λ r. ⌜ Ends (told answerToC (clearOutcome b (now (img .entry)) slot)) r (now (img .exit)) ⌝ }
+    ensures { λ r. ⌜ Ends (outcomeToC answerToC (clearOutcome b (now (img .entry)) slot)) r (now (img .exit)) ⌝ }
 {
     answers::answer_to_c(card::clear(img, b, Slot(slot)))
 }
@@ -61,7 +62,7 @@ pub extern "C" fn card_write_payload(
     place: usize,
     bytes: &[u8],
 ) -> GptStored
-    ensures { λ r. ⌜ Ends (told storedToC (payloadOutcome b (now (img .entry)) slot place (now (bytes .entry)))) r (now (img .exit)) ⌝ }
+    ensures { λ r. ⌜ Ends (outcomeToC storedToC (payloadOutcome b (now (img .entry)) slot place (now (bytes .entry)))) r (now (img .exit)) ⌝ }
 {
     answers::stored_to_c(card::write_payload(img, b, Slot(slot), BytePlace(place), bytes))
 }
@@ -101,8 +102,8 @@ pub extern "C" fn card_nth_used(img: &[u8], b: u64, k: u32) -> CardUsedRead
 // The listing into lent bytes, 136 bytes an entry, and how many there are: 15 after the check, where there are fewer bytes.
 #[no_mangle]
 pub extern "C" fn card_list(img: &[u8], b: u64, out: &mut [u8]) -> GptCount
-    ensures { λ r. ⌜ Ends (told countToC (bytesOutcome (listingRead b (now (img .entry)) (length (now (out .entry)) / 136)) (now (out .entry)))) r (now (out .exit)) ⌝ }
+    ensures { λ r. ⌜ Ends (outcomeToC countToC (bytesOutcome (listingRead b (now (img .entry)) (length (now (out .entry)) / 136)) (now (out .entry)))) r (now (out .exit)) ⌝ }
 {
-    let p = card_row::inner::plan_of(img, b);
-    answers::count_to_c(row_bytes::inner::fill_bytes(img, p, out))
+    let p = listing::inner::plan_of(img, b);
+    answers::count_to_c(rows::inner::fill_bytes(img, p, out))
 }

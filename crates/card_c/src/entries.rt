@@ -24,8 +24,8 @@ ghost use Rattle.partition.specs.Device.{entryStored, zerosStored};
 ghost use Rattle.partition.specs.Array.{partitionRead, partitionCount, partitionAfter};
 ghost use Rattle.partition.specs.Meanings.{lengthMeans};
 ghost use Rattle.rows.specs.Row.{partitionsRead};
-ghost use Rattle.row_bytes.specs.RowBytes.{bytesOutcome};
-ghost use Rattle.card_c.specs.Exports.{told, storedToC, countToC, nextToC, heldToC, lengthToC, placeToC, entryToC, entryParsed};
+ghost use Rattle.rows.specs.RowBytes.{bytesOutcome};
+ghost use Rattle.card_c.specs.Exports.{outcomeToC, storedToC, countToC, nextToC, heldToC, lengthToC, placeToC, entryToC, entryParsed};
 
 // How many blocks or bytes.
 #[repr(C)]
@@ -144,7 +144,7 @@ pub extern "C" fn gpt_write_entry(
     b: u64,
     entry_size: u32,
 ) -> GptStored
-    ensures { λ r. ⌜ Ends (told storedToC (entryStored (now (img .entry)) p index start b «entry_size»)) r (now (img .exit)) ⌝ }
+    ensures { λ r. ⌜ Ends (outcomeToC storedToC (entryStored (now (img .entry)) p index start b «entry_size»)) r (now (img .exit)) ⌝ }
 {
     answers::stored_to_c(p.write_to_device(img, index, Lba(start), b, entry_size))
 }
@@ -159,7 +159,7 @@ pub extern "C" fn gpt_write_zero_entries(
     b: u64,
     entry_size: u32,
 ) -> GptStored
-    ensures { λ r. ⌜ Ends (told storedToC (zerosStored (now (img .entry)) index count start b «entry_size»)) r (now (img .exit)) ⌝ }
+    ensures { λ r. ⌜ Ends (outcomeToC storedToC (zerosStored (now (img .entry)) index count start b «entry_size»)) r (now (img .exit)) ⌝ }
 {
     answers::stored_to_c(Partition::write_zero_entries_to_device(
         img,
@@ -203,8 +203,8 @@ pub extern "C" fn gpt_file_read_partitions(
     b: u64,
     out: &mut [u8],
 ) -> GptCount
-    ensures { λ r. ⌜ Ends (told countToC (bytesOutcome (partitionsRead (now (img .entry)) h b (length (now (out .entry)) / 136)) (now (out .entry)))) r (now (out .exit)) ⌝ }
+    ensures { λ r. ⌜ Ends (outcomeToC countToC (bytesOutcome (partitionsRead (now (img .entry)) h b (length (now (out .entry)) / 136)) (now (out .entry)))) r (now (out .exit)) ⌝ }
 {
     let p = rows::inner::plan_for(img, h, b);
-    answers::count_to_c(row_bytes::inner::fill_bytes(img, p, out))
+    answers::count_to_c(rows::inner::fill_bytes(img, p, out))
 }

@@ -15,7 +15,7 @@ ghost use Rattle.header.specs.Reading.{primaryRead, backupRead, backupBlock};
 ghost use Rattle.header.specs.Writing.{partsSum, primaryWritten, backupWritten};
 ghost use Rattle.header.specs.Meanings.{readMeans, writtenMeans, sumMeans};
 ghost use Rattle.slot_sum.specs.SlotSum.{slotSum};
-ghost use Rattle.card_c.specs.Exports.{told, zeroHeader, headerToC, writtenToC, sumToC, blockToC};
+ghost use Rattle.card_c.specs.Exports.{outcomeToC, zeroHeader, headerToC, writtenToC, sumToC, blockToC};
 
 #[repr(C)]
 pub struct GptHeaderRead {
@@ -168,7 +168,7 @@ pub extern "C" fn gpt_slot_sum<'a>(sum: u32, old: &'a [u8], new: &'a [u8], after
 // Stores a primary header in its own block, with new sums: 1, 11, 3, 2, 3, 2.
 #[no_mangle]
 pub extern "C" fn gpt_write_primary(img: &mut [u8], h: Header, b: u64) -> GptHeaderWritten
-    ensures { λ r. ⌜ Ends (told writtenToC (primaryWritten (now (img .entry)) h b)) r (now (img .exit)) ⌝ }
+    ensures { λ r. ⌜ Ends (outcomeToC writtenToC (primaryWritten (now (img .entry)) h b)) r (now (img .exit)) ⌝ }
 {
     written_to_c(h.write_primary(img, b))
 }
@@ -176,7 +176,7 @@ pub extern "C" fn gpt_write_primary(img: &mut [u8], h: Header, b: u64) -> GptHea
 // Stores a backup header in its own block, with new sums: 1, 11, 3, 2, 3, 2.
 #[no_mangle]
 pub extern "C" fn gpt_write_backup(img: &mut [u8], h: Header, b: u64) -> GptHeaderWritten
-    ensures { λ r. ⌜ Ends (told writtenToC (backupWritten (now (img .entry)) h b)) r (now (img .exit)) ⌝ }
+    ensures { λ r. ⌜ Ends (outcomeToC writtenToC (backupWritten (now (img .entry)) h b)) r (now (img .exit)) ⌝ }
 {
     written_to_c(h.write_backup(img, b))
 }

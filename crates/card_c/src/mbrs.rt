@@ -16,7 +16,7 @@ ghost use Rattle.mbr.specs.Parsing.{recordParsed, mbrParsed, imageParsed, bytes
 ghost use Rattle.mbr.specs.Changing.{recordTaken, recordSet};
 ghost use Rattle.mbr.specs.Storing.{wholeStored, tailStored, bytesStored};
 ghost use Rattle.mbr.specs.Meanings.{recordMeans, mbrMeans, setMeans, bootcodeMeans, signatureMeans};
-ghost use Rattle.card_c.specs.Exports.{told, storedToC, aside, answered, zeroMbr, mbrToC, recordToC, setToC, bootcodeMade, bootcodeToC, signatureMade, signatureToC};
+ghost use Rattle.card_c.specs.Exports.{outcomeToC, storedToC, aside, answered, zeroMbr, mbrToC, recordToC, setToC, bootcodeMade, bootcodeToC, signatureMade, signatureToC};
 
 #[repr(C)]
 pub struct GptMbrRead {
@@ -238,7 +238,7 @@ pub extern "C" fn gpt_mbr_set_record(m: ProtectiveMbr, place: usize, p: PartReco
 // Stores the MBR over bytes 0 to 511: 2.
 #[no_mangle]
 pub extern "C" fn gpt_mbr_overwrite(img: &mut [u8], m: ProtectiveMbr) -> GptStored
-    ensures { λ r. ⌜ Ends (told storedToC (wholeStored (now (img .entry)) m)) r (now (img .exit)) ⌝ }
+    ensures { λ r. ⌜ Ends (outcomeToC storedToC (wholeStored (now (img .entry)) m)) r (now (img .exit)) ⌝ }
 {
     answers::stored_to_c(m.overwrite_lba0(img))
 }
@@ -246,7 +246,7 @@ pub extern "C" fn gpt_mbr_overwrite(img: &mut [u8], m: ProtectiveMbr) -> GptStor
 // Stores the four records and 55 AA over bytes 446 to 511: 2.
 #[no_mangle]
 pub extern "C" fn gpt_mbr_update_conservative(img: &mut [u8], m: ProtectiveMbr) -> GptStored
-    ensures { λ r. ⌜ Ends (told storedToC (tailStored (now (img .entry)) m)) r (now (img .exit)) ⌝ }
+    ensures { λ r. ⌜ Ends (outcomeToC storedToC (tailStored (now (img .entry)) m)) r (now (img .exit)) ⌝ }
 {
     answers::stored_to_c(m.update_conservative(img))
 }
@@ -262,7 +262,7 @@ pub extern "C" fn gpt_mbr_read_bootcode(img: &[u8]) -> GptBootcodeRead
 // Stores boot code over bytes 0 to 439 of an image: 2.
 #[no_mangle]
 pub extern "C" fn gpt_mbr_write_bootcode(img: &mut [u8], code: GptBootcode) -> GptStored
-    ensures { λ r. ⌜ Ends (told storedToC (bytesStored (now (img .entry)) 0 (code .bytes))) r (now (img .exit)) ⌝ }
+    ensures { λ r. ⌜ Ends (outcomeToC storedToC (bytesStored (now (img .entry)) 0 (code .bytes))) r (now (img .exit)) ⌝ }
 {
     let bytes = code.bytes;
     answers::stored_to_c(mbr::write_bootcode(img, &bytes))
@@ -279,7 +279,7 @@ pub extern "C" fn gpt_mbr_read_disk_signature(img: &[u8]) -> GptSignatureRead
 // Stores a disk signature over bytes 440 to 443 of an image: 2.
 #[no_mangle]
 pub extern "C" fn gpt_mbr_write_disk_signature(img: &mut [u8], signature: GptSignature) -> GptStored
-    ensures { λ r. ⌜ Ends (told storedToC (bytesStored (now (img .entry)) 440 (signature .bytes))) r (now (img .exit)) ⌝ }
+    ensures { λ r. ⌜ Ends (outcomeToC storedToC (bytesStored (now (img .entry)) 440 (signature .bytes))) r (now (img .exit)) ⌝ }
 {
     let bytes = signature.bytes;
     answers::stored_to_c(mbr::write_disk_signature(img, &bytes))

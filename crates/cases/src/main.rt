@@ -6,7 +6,7 @@ mod every; // every.rt: one of them, of all calls
 mod say; // say.rt: the words of an answer
 mod script; // script.rt: the words of the script
 
-use libc::STDIN_FILENO;
+use console::Input;
 
 // The block size, and how many bytes of the space are the image.
 struct Image {
@@ -85,6 +85,8 @@ fn run(space: &mut [u8], s: &[u8]) {
 fn main() {
     let mut space = [0xA5; 57444];
     let mut buf = io::large_buffer();
-    let n = io::read_full(STDIN_FILENO, &mut buf);
-    run(&mut space, &buf[..n]);
+    match console::read_input(&mut buf) {
+        Input::Failed => console::complain(b"cases: cannot read the input\n"),
+        Input::Bytes(n) => run(&mut space, &buf[..n]),
+    }
 }

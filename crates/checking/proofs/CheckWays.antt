@@ -1,37 +1,35 @@
 -- The ways of the card check's code: what each of its answers has found is what the definition says there. No contract cites this file. Assumes nothing.
 use mathlib.Core.Path.{_≡_, refl, sym, ap, _∙_, subst}
-use mathlib.Core.Logic.{_⊎_, inl, inr}
 use mathlib.Core.Bool.{Bool, true, false, not, _&&_}
 use mathlib.Core.List.{List}
-use Prim.Native.Nat.{ℕ, zero, suc, _+_, _*_, _-_, _/_, _^_, _≤_, _<_}
+use Prim.Native.Nat.{ℕ, _+_, _*_, _-_, _≤_, _<_}
 use native.Mathlib.Omega.{arith}
-use borrow.Author.Tests.{eqb-true, eqb-false, lt-ltb, le-ltb, eq-eqb, ne-eqb, not-true, not-false}
+use borrow.Author.Tests.{eqb-true, eqb-false, eq-eqb, ne-eqb, not-true, not-false}
 use lib.Dec.{eqb, ltb, leb}
-use lib.ListN.{length, take, drop}
-use lib.Seq.{sets, take-take}
-use Rattle.units.specs.Answer.{pick}
-use Rattle.units.specs.Bytes.{part, num, bytes, same, allZero}
+use lib.ListN.{drop}
+use lib.Seq.{take-take}
 use Rattle.units.specs.Places.{goodSize}
-use Rattle.units.specs.Held.{Small}
+use Rattle.units.proofs.Chains.{past, named-when, named-else, Named, found, named-is, none-when, else-first, else-second, none, last}
+use Rattle.units.specs.declared.why.Why.{Why}
+use Rattle.units.specs.declared.Refusal.the-variants.{BadBlockSize, InvalidGptSignature, InvalidCRC32Checksum, PartsCrc, ToSmallForBackup, BackupLbaToEarly, WrongLayout, Disagree, BadSlot}
+use Rattle.units.specs.Answer.{pick, orElse, fine, plain, when}
+use Rattle.units.specs.Bytes.{part, num, same, allZero}
 use Rattle.units.proofs.Lists.{part-part}
-use Rattle.units.proofs.Laws.{good-size, num-part, small-part}
+use Rattle.units.proofs.Laws.{num-part}
 use Rattle.crc32.specs.Crc.{crc}
 use Rattle.crc32.specs.HeaderSum.{headerSum}
 use Rattle.header.specs.declared.Header.{Header}
 use Rattle.header.specs.Format.{signature, headerAt}
-use Rattle.tables.specs.Checks.{when, orElse, all}
-use Rattle.tables.specs.Places.{blocks, arrayBlocks, firstUsable, lastUsable, backArray, backHeader}
-use Rattle.tables.specs.Lens.{Tables, tablesAt, tables}
-use Rattle.tables.specs.Entries.{zeros, entry, used, firstOf, lastOf, usable, okEntry, clash, entriesOk}
-use Rattle.tables.specs.Headers.{Side, Front, Back, header, laidFields}
-use Rattle.tables.specs.Check.{roomCheck, copyCheck, headOf, guidOf, check}
-use Rattle.tables.specs.Calls.{judged}
-use Rattle.tables.proofs.NumberWays.{else-here, else-on}
+use Rattle.header.proofs.Laws.{sum-part}
+use Rattle.tables.specs.Checks.{all}
+use Rattle.tables.specs.Places.{firstUsable, lastUsable, arrayBlocks, blocks}
+use Rattle.tables.specs.Lens.{Tables, Side, Front, Back}
+use Rattle.tables.specs.Entries.{entry, used, firstOf, lastOf, usable, okEntry, allOk, overlaps, entriesOk}
+use Rattle.tables.specs.Headers.{laidFields}
+use Rattle.tables.specs.Check.{roomCheck, copyCheck, headOf, guidOf, check, tableCheck, pairCheck, slotCheck, badSlot}
 use Rattle.tables.proofs.Orders.{split, by-test, all-at, all-of}
-use Rattle.tables.proofs.EntryLaws.{clash-comm, zero-front}
-use Rattle.tables.proofs.Good.{room-ok}
-use Rattle.tables.proofs.Bridge.{narrow}
-use Rattle.tables.proofs.ReadCheck.{readCheck, copy-read, head-part}
+use Rattle.tables.proofs.EntryLaws.{overlaps-comm, zero-front}
+use Rattle.tables.proofs.ReadCheck.{mark-part, header-part}
 
 -- ---- the parts that the code reads
 
@@ -79,16 +77,16 @@ module _ {z : Bool} (xs : List ℕ) (at : ℕ) (e : z ≡ allZero (part xs at 16
       unlike : false ≡ true → ⊥
       unlike q = let o : _≡_ {A = ℕ} 0 1 = cc in omega arith
 
-  pub meets-unused : (d : List ℕ) → z ≡ true → false ≡ clash d (part xs at 128)
-  unfolding clash
-  meets-unused d t =
+  pub overlaps-nil : (d : List ℕ) → z ≡ true → false ≡ overlaps d (part xs at 128)
+  unfolding overlaps
+  overlaps-nil d t =
       let u : used (part xs at 128) ≡ false = used-part xs at ∙ ap not (sym e ∙ t) in
       by-test (used d) (λ a. rw (a, u)) (λ a. rw a)
 
-  pub meets-used : (d : List ℕ) {f l first last : ℕ} → z ≡ false → f ≡ num xs (at + 32) 8 → l ≡ num xs (at + 40) 8
-      → used d ≡ true → first ≡ firstOf d → last ≡ lastOf d → leb first l && leb f last ≡ clash d (part xs at 128)
-  unfolding clash
-  meets-used d t f l w p q =
+  pub overlaps-used : (d : List ℕ) {f l first last : ℕ} → z ≡ false → f ≡ num xs (at + 32) 8 → l ≡ num xs (at + 40) 8
+      → used d ≡ true → first ≡ firstOf d → last ≡ lastOf d → leb first l && leb f last ≡ overlaps d (part xs at 128)
+  unfolding overlaps
+  overlaps-used d t f l w p q =
       let u : used (part xs at 128) ≡ true = used-part xs at ∙ ap not (sym e ∙ t) in
       rw (w, u, first-part xs at ∙ sym f, last-part xs at ∙ sym l, ← p, ← q)
 
@@ -129,14 +127,14 @@ triangle n f comm =
     (all-at n (λ (i : ℕ). pick (eqb k i) true (not (f k i))) (all-at n (λ (j : ℕ). all n (λ (k : ℕ). pick (eqb j k) true (not (f j k)))) t k q) j (omega arith)))))
 
 -- an unused entry shares no block
-pub clash-unused : (d e : List ℕ) → used d ≡ false → clash d e ≡ false
-unfolding clash
-clash-unused d e u = rw u
+pub overlaps-unused : (d e : List ℕ) → used d ≡ false → overlaps d e ≡ false
+unfolding overlaps
+overlaps-unused d e u = rw u
 
 -- so it is with entries that share a block
-pub square : (arr : List ℕ) → all 128 (λ (k : ℕ). all k (λ (j : ℕ). not (clash (entry arr k) (entry arr j))))
-    ≡ all 128 (λ (j : ℕ). all 128 (λ (k : ℕ). pick (eqb j k) true (not (clash (entry arr j) (entry arr k)))))
-square arr = triangle 128 (λ (j k : ℕ). clash (entry arr j) (entry arr k)) (λ j k. clash-comm (entry arr j) (entry arr k))
+pub square : (arr : List ℕ) → all 128 (λ (k : ℕ). all k (λ (j : ℕ). not (overlaps (entry arr k) (entry arr j))))
+    ≡ all 128 (λ (j : ℕ). all 128 (λ (k : ℕ). pick (eqb j k) true (not (overlaps (entry arr j) (entry arr k)))))
+square arr = triangle 128 (λ (j k : ℕ). overlaps (entry arr j) (entry arr k)) (λ j k. overlaps-comm (entry arr j) (entry arr k))
 
 -- what is read of entry k, which is then compared with others
 module _ (xs : List ℕ) (at k : ℕ) (h : k < 128) where
@@ -151,132 +149,149 @@ module _ (xs : List ℕ) (at k : ℕ) (h : k < 128) where
 
 -- ---- 4, 5, 16, 6
 
--- the code's check of a table is the definition's
-pub copy-by : (B : ℕ) (s : Side) (xs : List ℕ) (at array : ℕ) → roomCheck B (length xs) ≡ 0 → length xs < 2 ^ 64 → at + 92 ≤ length xs → Small xs
-    → readCheck B (length xs) s xs at (part xs array 16384) ≡ copyCheck B (length xs) s (part xs at 92) (part xs array 16384)
-copy-by B s xs at array r l h b =
-    sym (copy-read B (length xs) s xs at (part xs array 16384) h b (small-part xs array 16384 b) (narrow B (length xs) s (room-ok B (length xs) r) l))
-
+-- by what a reader finds at the header's place
 module _ (B n : ℕ) (s : Side) (xs : List ℕ) (at : ℕ) (arr : List ℕ) {q : Bool} (e : q ≡ same (part xs at 8) signature) where
-  pub copy-unsigned : not q ≡ true → 4 ≡ readCheck B n s xs at arr
-  unfolding readCheck
-  copy-unsigned t = rw (← e, t)
+  signed : q ≡ same (part (part xs at 92) 0 8) signature
+  signed = e ∙ ap (λ (l : List ℕ). same l signature) (sym (mark-part xs at))
+
+  pub copy-unsigned : not q ≡ true → plain 4 ≡ copyCheck B n s (part xs at 92) arr
+  unfolding copyCheck orElse
+  copy-unsigned t = rw (← signed, t)
 
   module _ (t : not q ≡ false) {h : Header} (r : h ≡ headerAt xs at) {x : ℕ} (u : x ≡ headerSum xs at) where
-    pub copy-other : (x ≡ h .crc32 → ⊥) → 5 ≡ readCheck B n s xs at arr
-    unfolding readCheck
-    copy-other d =
-        let k : h .crc32 ≡ headerAt xs at .crc32 = ap (λ (y : Header). y .crc32) r in
-        rw (← e, t, ne-eqb (headerSum xs at) (headerAt xs at .crc32) (λ z. d (u ∙ z ∙ sym k)))
+    read : h ≡ headerAt (part xs at 92) 0
+    read = r ∙ sym (header-part xs at)
+
+    own : h .crc32 ≡ headerAt (part xs at 92) 0 .crc32
+    own = ap (λ (y : Header). y .crc32) read
+
+    parts : h .«crc32_parts» ≡ headerAt (part xs at 92) 0 .«crc32_parts»
+    parts = ap (λ (y : Header). y .«crc32_parts») read
+
+    pub copy-other : (x ≡ h .crc32 → ⊥) → plain 5 ≡ copyCheck B n s (part xs at 92) arr
+    unfolding copyCheck orElse
+    copy-other d = rw (← signed, t, ne-eqb (headerSum (part xs at 92) 0) (headerAt (part xs at 92) 0 .crc32) (λ z. d (u ∙ sum-part xs at ∙ z ∙ sym own)))
 
     module _ (v : x ≡ h .crc32) {f : Bool} (w : f ≡ laidFields B n s h) where
-      summed : eqb (headerSum xs at) (headerAt xs at .crc32) ≡ true
-      summed = eq-eqb (headerSum xs at) (headerAt xs at .crc32) (sym u ∙ v ∙ ap (λ (y : Header). y .crc32) r)
+      summed : eqb (headerSum (part xs at 92) 0) (headerAt (part xs at 92) 0 .crc32) ≡ true
+      summed = eq-eqb (headerSum (part xs at 92) 0) (headerAt (part xs at 92) 0 .crc32) (sym (u ∙ sum-part xs at) ∙ v ∙ own)
 
-      fields : f ≡ laidFields B n s (headerAt xs at)
-      fields = w ∙ ap (laidFields B n s) r
+      fields : f ≡ laidFields B n s (headerAt (part xs at 92) 0)
+      fields = w ∙ ap (laidFields B n s) read
 
-      pub copy-wrong : not f ≡ true → 16 ≡ readCheck B n s xs at arr
-      unfolding readCheck
-      copy-wrong d = rw (← e, t, summed, ← fields, d)
+      pub copy-wrong : not f ≡ true → plain 16 ≡ copyCheck B n s (part xs at 92) arr
+      unfolding copyCheck orElse
+      copy-wrong d = rw (← signed, t, summed, ← fields, d)
 
       module _ (l : not f ≡ false) {sum : ℕ} (m : sum ≡ crc arr) where
-        pub copy-array : (sum ≡ h .«crc32_parts» → ⊥) → 6 ≡ readCheck B n s xs at arr
-        unfolding readCheck
-        copy-array d =
-            let k : h .«crc32_parts» ≡ headerAt xs at .«crc32_parts» = ap (λ (y : Header). y .«crc32_parts») r in
-            rw (← e, t, summed, ← fields, l, ne-eqb (crc arr) (headerAt xs at .«crc32_parts») (λ z. d (m ∙ z ∙ sym k)))
+        pub copy-array : (sum ≡ h .«crc32_parts» → ⊥) → plain 6 ≡ copyCheck B n s (part xs at 92) arr
+        unfolding copyCheck orElse
+        copy-array d = rw (← signed, t, summed, ← fields, l, ne-eqb (crc arr) (headerAt (part xs at 92) 0 .«crc32_parts») (λ z. d (m ∙ z ∙ sym parts)))
 
-        pub copy-right : sum ≡ h .«crc32_parts» → 0 ≡ readCheck B n s xs at arr
-        unfolding readCheck
-        copy-right d =
-            let k : h .«crc32_parts» ≡ headerAt xs at .«crc32_parts» = ap (λ (y : Header). y .«crc32_parts») r in
-            rw (← e, t, summed, ← fields, l, eq-eqb (crc arr) (headerAt xs at .«crc32_parts») (sym m ∙ d ∙ k))
+        pub copy-right : sum ≡ h .«crc32_parts» → fine ≡ copyCheck B n s (part xs at 92) arr
+        unfolding copyCheck orElse
+        copy-right d = rw (← signed, t, summed, ← fields, l, eq-eqb (crc arr) (headerAt (part xs at 92) 0 .«crc32_parts») (sym m ∙ d ∙ parts))
 
 -- ---- 17, and 16 of the entries
 
-module _ (B n : ℕ) (arr : List ℕ) {a : Bool} (e : a ≡ all 128 (λ (k : ℕ). okEntry B n (entry arr k))) where
+module _ (B n : ℕ) (arr : List ℕ) {a : Bool} (e : a ≡ allOk B n arr) where
   pub entries-bad : not a ≡ true → false ≡ entriesOk B n arr
   unfolding entriesOk
   entries-bad t = rw (← e, not-true a t)
 
-  pub entries-apart : {d : Bool} → not a ≡ false → d ≡ all 128 (λ (j : ℕ). all 128 (λ (k : ℕ). pick (eqb j k) true (not (clash (entry arr j) (entry arr k)))))
+  pub entries-apart : {d : Bool} → not a ≡ false → d ≡ all 128 (λ (j : ℕ). all 128 (λ (k : ℕ). pick (eqb j k) true (not (overlaps (entry arr j) (entry arr k)))))
       → d ≡ entriesOk B n arr
   unfolding entriesOk
   entries-apart t f = f ∙ rw (← e, not-false a t)
 
-module _ {g h : Bool} (agree : Bool) (e : g ≡ h) (m : ℕ) where
-  pub pair-differ : not (g && agree) ≡ true → 17 ≡ orElse (when (not (h && agree)) 17) m
-  pair-differ t = rw (← e, t)
+module _ (B n : ℕ) (g h x y : List ℕ) {q agree : Bool} (e : q ≡ same g h) (f : agree ≡ same x y) where
+  pub pair-differ : not (q && agree) ≡ true → plain 17 ≡ pairCheck B n g h x y
+  unfolding pairCheck orElse
+  pair-differ t = rw (← e, ← f, t)
 
-  pub pair-agree : {r : ℕ} → not (g && agree) ≡ false → r ≡ m → r ≡ orElse (when (not (h && agree)) 17) m
-  pair-agree t f = rw (← e, t) f
+  module _ (t : not (q && agree) ≡ false) {o : Bool} (w : o ≡ entriesOk B n x) where
+    pub pair-entries : not o ≡ true → plain 16 ≡ pairCheck B n g h x y
+    unfolding pairCheck orElse
+    pair-entries v = rw (← e, ← f, t, ← w, v)
 
-pub entries-wrong : {g h : Bool} → g ≡ h → not g ≡ true → 16 ≡ when (not h) 16
-entries-wrong e t = rw (← e, t)
-
-pub entries-right : {g h : Bool} → g ≡ h → not g ≡ false → 0 ≡ when (not h) 16
-entries-right e t = rw (← e, t)
+    pub pair-fine : not o ≡ false → fine ≡ pairCheck B n g h x y
+    unfolding pairCheck orElse
+    pair-fine v = rw (← e, ← f, t, ← w, v)
 
 -- ---- the order of the parts
 
--- the four places that the check reads at: the headers' and the arrays', in front and at the back
-pub record Reach (B n f a k o : ℕ) : Type 0 where
-  pub least : 512 ≤ B
-  pub front : f + 92 ≤ n
-  pub array : a + 16384 ≤ n
-  pub back : k + 92 ≤ n
-  pub other : o + 16384 ≤ n
+pub check-room : (B n : ℕ) (t : Tables) {f : Why} → f ≡ roomCheck B n → (f .number ≡ 0 → ⊥) → f ≡ check B n t
+unfolding check
+check-room B n t e d = found _ e d
 
--- each is where the definitions have it
-pub record Where (B n f a k o : ℕ) : Type 0 where
-  pub front : f ≡ B
-  pub array : a ≡ B + B
-  pub back : k ≡ backHeader B n
-  pub other : o ≡ backArray B n
+module _ (B n : ℕ) (t : Tables) (r : roomCheck B n .number ≡ 0) {f : Why} (e : f ≡ tableCheck B n Front (t .front)) where
+  pub check-front : (f .number ≡ 0 → ⊥) → f ≡ check B n t
+  unfolding check
+  check-front d = past refl r (found _ e d)
 
-pub reach : (B n f a k o : ℕ) → roomCheck B n ≡ 0 → Where B n f a k o → Reach B n f a k o
-reach B n f a k o h w =
-    let r = room-ok B n h in
-    record {
-      least = r .least;
-      front = omega (arith, w .front, r .least, r .enough);
-      array = omega (arith, w .array, r .low, r .seam, r .top);
-      back = omega (arith, w .back, r .least, r .top);
-      other = omega (arith, w .other, r .seam, r .top);
-    }
+  module _ {k : Why} (z : f .number ≡ 0) (g : k ≡ tableCheck B n Back (t .back)) where
+    pub check-back : (k .number ≡ 0 → ⊥) → k ≡ check B n t
+    unfolding check
+    check-back d = past refl r (past e z (found _ g d))
 
--- what the check of an image with room is, at those places
-unfoldable pub partsCheck : ℕ → List ℕ → ℕ → ℕ → ℕ → ℕ → ℕ
-partsCheck B xs f a k o =
-    orElse (copyCheck B (length xs) Front (part xs f 92) (part xs a 16384))
-    (orElse (copyCheck B (length xs) Back (part xs k 92) (part xs o 16384))
-    (orElse (when (not (same (part xs (f + 56) 16) (part xs (k + 56) 16) && same (part xs a 16384) (part xs o 16384))) 17)
-    (when (not (entriesOk B (length xs) (part xs a 16384))) 16)))
+    pub check-pair : {m : Why} → k .number ≡ 0 → m ≡ pairCheck B n (guidOf (t .front)) (guidOf (t .back)) (t .front .array) (t .back .array) → m ≡ check B n t
+    unfolding check
+    check-pair y q = past refl r (past e z (past g y q))
 
-pub parts-check : (B : ℕ) (xs : List ℕ) (f a k o : ℕ) → roomCheck B (length xs) ≡ 0 → Where B (length xs) f a k o
-    → partsCheck B xs f a k o ≡ check B (length xs) (tables B xs)
-unfolding check guidOf tablesAt partsCheck
-parts-check B xs f a k o h w =
-    let r = room-ok B (length xs) h in
-    let x : take 92 (part xs B B) ≡ part xs B 92 = head-part xs B B (omega (arith, r .least)) in
-    let y : take 92 (part xs (backHeader B (length xs)) B) ≡ part xs (backHeader B (length xs)) 92 = head-part xs (backHeader B (length xs)) B (omega (arith, r .least)) in
-    let g : part (part xs B 92) 56 16 ≡ part xs (B + 56) 16 = part-part xs B 92 56 16 (omega arith) in
-    let d : part (part xs (backHeader B (length xs)) 92) 56 16 ≡ part xs (backHeader B (length xs) + 56) 16 = part-part xs (backHeader B (length xs)) 92 56 16 (omega arith) in
-    rw (h, w .front, w .array, w .back, w .other, x, y, g, d)
+-- ---- 18 after the check
 
-module _ (B : ℕ) (xs : List ℕ) (a₁ a₂ b₁ b₂ : ℕ) {f : ℕ} (e : f ≡ copyCheck B (length xs) Front (part xs a₁ 92) (part xs a₂ 16384)) where
-  pub parts-front : (f ≡ 0 → ⊥) → f ≡ partsCheck B xs a₁ a₂ b₁ b₂
-  unfolding partsCheck
-  parts-front d = else-here _ e d
+module _ (B n : ℕ) (t : Tables) (s : ℕ) {f : Why} (e : f ≡ check B n t) where
+  pub slot-checked : (f .number ≡ 0 → ⊥) → f ≡ slotCheck B n t s
+  unfolding slotCheck
+  slot-checked d = found _ e d
 
-  module _ {k : ℕ} (z : f ≡ 0) (g : k ≡ copyCheck B (length xs) Back (part xs b₁ 92) (part xs b₂ 16384)) where
-    pub parts-back : (k ≡ 0 → ⊥) → k ≡ partsCheck B xs a₁ a₂ b₁ b₂
-    unfolding partsCheck
-    parts-back d = else-on e z (else-here _ g d)
+  module _ (o : f .number ≡ 0) {z : Bool} (k : z ≡ badSlot s) where
+    pub slot-bad : z ≡ true → plain 18 ≡ slotCheck B n t s
+    unfolding slotCheck
+    slot-bad q = past e o (last _ (sym k ∙ q))
 
-    pub parts-pair : {agree : Bool} {r : ℕ} → k ≡ 0 → agree ≡ same (part xs a₂ 16384) (part xs b₂ 16384)
-        → r ≡ orElse (when (not (same (part xs (a₁ + 56) 16) (part xs (b₁ + 56) 16) && agree)) 17) (when (not (entriesOk B (length xs) (part xs a₂ 16384))) 16)
-        → r ≡ partsCheck B xs a₁ a₂ b₁ b₂
-    unfolding partsCheck
-    parts-pair y a q = else-on e z (else-on g y (rw (← a) q))
+    pub slot-fine : z ≡ false → fine ≡ slotCheck B n t s
+    unfolding slotCheck
+    slot-fine q = past e o (none _ (sym k ∙ q))
+
+pub slot-good : (B n : ℕ) (t : Tables) (s : ℕ) → slotCheck B n t s .number ≡ 0 → (check B n t .number ≡ 0) × (badSlot s ≡ false)
+unfolding slotCheck
+slot-good B n t s h = (else-first (check B n t) _ h, none-when (badSlot s) (plain 18) tt (else-second (check B n t) _ h))
+
+-- ---- the check's refusal has a name
+
+pub named-room : (B n : ℕ) → Named (roomCheck B n)
+unfolding roomCheck
+named-room B n =
+    named-else (when (not (goodSize B)) (plain 1)) _ (named-when (not (goodSize B)) _ (named-is BadBlockSize))
+    (named-else (when (ltb n (3 * B)) (plain 8)) _ (named-when (ltb n (3 * B)) _ (named-is ToSmallForBackup))
+    (named-when (ltb (blocks B n - 1) (2 * arrayBlocks B + 3)) _ (named-is BackupLbaToEarly)))
+
+named-copy : (B n : ℕ) (s : Side) (x arr : List ℕ) → Named (copyCheck B n s x arr)
+unfolding copyCheck
+named-copy B n s x arr =
+    let signed : Bool = not (same (part x 0 8) signature) in
+    let summed : Bool = not (eqb (headerSum x 0) (headerAt x 0 .crc32)) in
+    let laid : Bool = not (laidFields B n s (headerAt x 0)) in
+    let array : Bool = not (eqb (crc arr) (headerAt x 0 .«crc32_parts»)) in
+    named-else (when signed (plain 4)) _ (named-when signed _ (named-is InvalidGptSignature))
+    (named-else (when summed (plain 5)) _ (named-when summed _ (named-is InvalidCRC32Checksum))
+    (named-else (when laid (plain 16)) _ (named-when laid _ (named-is WrongLayout)) (named-when array _ (named-is PartsCrc))))
+
+named-pair : (B n : ℕ) (g h x y : List ℕ) → Named (pairCheck B n g h x y)
+unfolding pairCheck
+named-pair B n g h x y =
+    let differ : Bool = not (same g h && same x y) in
+    named-else (when differ (plain 17)) _ (named-when differ _ (named-is Disagree)) (named-when (not (entriesOk B n x)) _ (named-is WrongLayout))
+
+pub named-check : (B n : ℕ) (t : Tables) → Named (check B n t)
+unfolding check
+named-check B n t =
+    named-else (roomCheck B n) _ (named-room B n)
+    (named-else (tableCheck B n Front (t .front)) _ (named-copy B n Front (headOf (t .front)) (t .front .array))
+    (named-else (tableCheck B n Back (t .back)) _ (named-copy B n Back (headOf (t .back)) (t .back .array))
+    (named-pair B n (guidOf (t .front)) (guidOf (t .back)) (t .front .array) (t .back .array))))
+
+pub named-slot : (B n : ℕ) (t : Tables) (s : ℕ) → Named (slotCheck B n t s)
+unfolding slotCheck
+named-slot B n t s = named-else (check B n t) _ (named-check B n t) (named-when (badSlot s) _ (named-is BadSlot))

@@ -9,11 +9,10 @@ use lib.Dec.{ltb, leb}
 use Rattle.units.specs.Answer.{pick}
 use Rattle.units.specs.Bytes.{part, num, allZero}
 use Rattle.tables.specs.Checks.{all}
-use Rattle.tables.specs.Entries.{entry, used, firstOf, lastOf, clash}
+use Rattle.tables.specs.Entries.{entry, used, firstOf, lastOf, overlaps}
 use Rattle.tables.proofs.Orders.{split, by-test, all-of}
-use Rattle.tables.proofs.EntryLaws.{clash-comm}
 use Rattle.checking.specs.Order.{startsAfter, greatestLast, Below}
-use Rattle.checking.proofs.CheckWays.{used-part, first-part, last-part, clash-unused}
+use Rattle.checking.proofs.CheckWays.{used-part, first-part, last-part}
 
 -- ---- what the code reads
 
@@ -47,8 +46,8 @@ unlike : false ≡ true → ⊥
 unlike q = let o : _≡_ {A = ℕ} 0 1 = cc in omega arith
 
 -- an entry that starts after all before it have ended shares no block with one of them
-pub after-apart : (arr : List ℕ) (k top : ℕ) → Below arr k top → startsAfter (entry arr k) top ≡ true → all k (λ (j : ℕ). not (clash (entry arr k) (entry arr j))) ≡ true
-unfolding startsAfter clash
+pub after-apart : (arr : List ℕ) (k top : ℕ) → Below arr k top → startsAfter (entry arr k) top ≡ true → all k (λ (j : ℕ). not (overlaps (entry arr k) (entry arr j))) ≡ true
+unfolding startsAfter overlaps
 after-apart arr k top below q =
     all-of k _ (λ j h.
     by-test (used (entry arr k))

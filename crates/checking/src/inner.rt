@@ -1,26 +1,29 @@
-// The card check: 1, 8, 10; 4, 5, 16, 6 of each table; 17; 16 of the entries. The public call comes last; each `requires` before it is what a caller has tested.
+// The card check over two copies: 1 bad block size, 8 below three blocks, 10 no room; of each table 4 signature, 5 header sum, 16 layout, 6 array sum; 17 the tables
+// differ; 16 an entry is wrong. The public call comes last; each `requires` before it is what a caller has tested.
+// `copy` is one table's own b + 16,384 bytes, as in `tables::inner`; `len` is the card's length in bytes.
 use header::Header;
 use units::BytePlace;
 use units::Lba;
+use units::Slot;
 use units::Verdict;
+use units::why;
+use units::why::Why;
 ghost use mathlib.Core.Path.{_≡_};
-ghost use mathlib.Core.Bool.{true, not, _&&_};
+ghost use mathlib.Core.Bool.{true, not};
 ghost use mathlib.Core.List.{List};
-ghost use Prim.Native.Nat.{ℕ, _+_, _*_, _^_, _≤_, _<_};
-ghost use lib.Dec.{eqb};
+ghost use Prim.Native.Nat.{ℕ, _+_, _≤_, _<_};
 ghost use lib.ListN.{length};
-ghost use Rattle.units.specs.Answer.{pick};
-ghost use Rattle.units.specs.Bytes.{part, num, same};
+ghost use Rattle.units.proofs.Chains.{found, last};
+ghost use Rattle.units.specs.Bytes.{part, same};
 ghost use Rattle.units.specs.Meanings.{verdictMeans};
 ghost use Rattle.crc32.specs.Crc.{crc};
 ghost use Rattle.crc32.specs.Rows.{Rows};
-ghost use Rattle.tables.specs.Checks.{when, orElse, all};
+ghost use Rattle.tables.specs.Checks.{all};
 ghost use Rattle.tables.specs.Places.{firstUsable, lastUsable};
-ghost use Rattle.tables.specs.Lens.{tables};
-ghost use Rattle.tables.specs.Entries.{entry, used, firstOf, lastOf, okEntry, clash, entriesOk};
-ghost use Rattle.tables.specs.Headers.{sideOf, alike, laidFields};
-ghost use Rattle.tables.specs.Check.{roomCheck, copyCheck, check};
-ghost use Rattle.tables.specs.Calls.{checkAnswer};
+ghost use Rattle.tables.specs.Lens.{Front, Back, sideOf, copyIn, copies, tables};
+ghost use Rattle.tables.specs.Entries.{entry, used, firstOf, lastOf, okEntry, allOk, overlaps, allApart, entriesOk};
+ghost use Rattle.tables.specs.Headers.{alike, laidFields};
+ghost use Rattle.tables.specs.Check.{roomCheck, tableCheck, tablesCheck, check, slotCheck, checkAnswer};
 ghost use Rattle.checking.specs.Order.{startsAfter, greatestLast, Below};
 
 // Whether two headers are the same in all fields but the GUID and the sums.
@@ -40,86 +43,65 @@ fn alike(h: Header, k: Header) -> bool
         & (h.part_size == k.part_size)
 }
 
-// What 16 tests of a header, in the back table or in the front one: it is like the one that lay would write.
+// What 16 (wrong layout) tests of a header, in the back table or in the front one: it is like the one that lay would write.
 fn laid_fields(h: Header, len: usize, b: u64, back: bool) -> bool
-    requires { ⌜ roomCheck b len ≡ 0 ⌝ }
+    requires { ⌜ roomCheck b len .number ≡ 0 ⌝ }
     ensures { λ r. ⌜ r ≡ laidFields b len (sideOf back) h ⌝ }
 {
     alike(h, tables::inner::card_header(len, b, back, h.disk_guid))
 }
 
-// Whether n bytes at one place are those at another.
-fn same_parts(img: &[u8], at: BytePlace, other: BytePlace, n: usize) -> bool
-    requires { ⌜ (at .0 + n ≤ length (now img)) × (other .0 + n ≤ length (now img)) ⌝ }
-    ensures { λ r. ⌜ r ≡ same (part (now (img .entry)) (at .0) n) (part (now (img .entry)) (other .0) n) ⌝ }
+// Whether n bytes at a place of one copy are those at a place of the other.
+fn same_in<'a>(one: &'a [u8], at: BytePlace, two: &'a [u8], other: BytePlace, n: usize) -> bool
+    requires { ⌜ (at .0 + n ≤ length (now one)) × (other .0 + n ≤ length (now two)) ⌝ }
+    ensures { λ r. ⌜ r ≡ same (part (now (one .entry)) (at .0) n) (part (now (two .entry)) (other .0) n) ⌝ }
 {
     let from = other.0;
-    units::inner::same_at(img, at.0, &img[from..from + n])
+    units::inner::same_at(one, at.0, &two[from..from + n])
 }
 
 // The back array's sum: the front array's, where the two are the same.
-fn back_sum<'a>(t: &'a [u32; 4096], img: &'a [u8], at: BytePlace, agree: bool, sum: u32) -> u32
+fn back_sum<'a>(t: &'a [u32; 4096], copy: &'a [u8], b: u64, agree: bool, sum: u32) -> u32
     requires { ⌜ Rows 16 (now t) ⌝ }
-    requires { ⌜ at .0 + 16384 ≤ length (now img) ⌝ }
-    requires { ⌜ (agree ≡ true → sum ≡ crc (part (now img) (at .0) 16384)) ⌝ }
-    ensures { λ r. ⌜ r ≡ crc (part (now (img .entry)) (at .0) 16384) ⌝ }
+    requires { ⌜ length (now copy) ≡ b + 16384 ⌝ }
+    requires { ⌜ (agree ≡ true → sum ≡ crc (copyIn b Back (now copy) .array)) ⌝ }
+    ensures { λ r. ⌜ r ≡ crc (copyIn b Back (now (copy .entry)) .array) ⌝ }
 {
     if agree {
         return sum;
     }
-    tables::inner::array_sum(t, img, at)
+    tables::inner::array_sum(t, copy, b, true)
 }
 
-// 4, 5, 16, 6 of the table whose header is at a place and whose array has a sum.
-fn copy_number<'a>(
+// 4 signature, 5 header sum, 16 layout, 6 array sum of one table, whose array has a sum.
+pub fn copy_check<'a>(
     t: &'a [u32; 4096],
-    img: &'a [u8],
-    at: BytePlace,
+    copy: &'a [u8],
+    len: usize,
     b: u64,
     back: bool,
     sum: u32,
-) -> u32
+) -> Why
     requires { ⌜ Rows 16 (now t) ⌝ }
-    requires { ⌜ (roomCheck b (length (now img)) ≡ 0) × (at .0 + 92 ≤ length (now img)) ⌝ }
-    ensures { λ r. ⌜ ((array : ℕ) → sum ≡ crc (part (now (img .entry)) array 16384) → r ≡ copyCheck b (length (now (img .entry))) (sideOf back) (part (now (img .entry)) (at .0) 92) (part (now (img .entry)) array 16384)) ⌝ }
+    requires { ⌜ (roomCheck b len .number ≡ 0) × (length (now copy) ≡ b + 16384) ⌝ }
+    requires { ⌜ sum ≡ crc (copyIn b (sideOf back) (now copy) .array) ⌝ }
+    ensures { λ r. ⌜ r ≡ tableCheck b len (sideOf back) (copyIn b (sideOf back) (now (copy .entry))) ⌝ }
 {
-    if !units::inner::same_at(img, at.0, b"EFI PART") {
-        return 4;
+    let at = tables::inner::header_in(back);
+    if !units::inner::same_at(copy, at.0, b"EFI PART") {
+        return why::INVALID_GPT_SIGNATURE;
     }
-    let h = header::inner::header_at(img, at.0);
-    if crc32::inner::header_sum_at(t, img, at.0) != h.crc32 {
-        return 5;
+    let h = header::inner::header_at(copy, at.0);
+    if crc32::inner::header_sum_at(t, copy, at.0) != h.crc32 {
+        return why::INVALID_CRC32_CHECKSUM;
     }
-    if !laid_fields(h, img.len(), b, back) {
-        return 16;
+    if !laid_fields(h, len, b, back) {
+        return why::WRONG_LAYOUT;
     }
     if sum != h.crc32_parts {
-        return 6;
+        return why::PARTS_CRC;
     }
-    0
-}
-
-// Where the entry at an array place stands, in the array at a byte place.
-pub fn entry_place(array: BytePlace, k: usize) -> BytePlace
-    requires { ⌜ (array .0 + 16384 < 2 ^ 64) × (k < 128) ⌝ }
-    ensures { λ r. ⌜ r .0 ≡ array .0 + 128 * k ⌝ }
-{
-    BytePlace(array.0 + 128 * k)
-}
-
-// The blocks of the entry at a place.
-fn first_of(img: &[u8], at: BytePlace) -> Lba
-    requires { ⌜ at .0 + 128 ≤ length (now img) ⌝ }
-    ensures { λ r. ⌜ r .0 ≡ num (now (img .entry)) (at .0 + 32) 8 ⌝ }
-{
-    Lba(units::inner::u64_at(img, at.0 + 32))
-}
-
-fn last_of(img: &[u8], at: BytePlace) -> Lba
-    requires { ⌜ at .0 + 128 ≤ length (now img) ⌝ }
-    ensures { λ r. ⌜ r .0 ≡ num (now (img .entry)) (at .0 + 40) 8 ⌝ }
-{
-    Lba(units::inner::u64_at(img, at.0 + 40))
+    why::FINE
 }
 
 // Whether the entry at a place is all zero, or used and inside the usable blocks.
@@ -127,22 +109,22 @@ fn entry_ok(img: &[u8], at: BytePlace, first: Lba, last: Lba) -> bool
     requires { ⌜ at .0 + 128 ≤ length (now img) ⌝ }
     ensures { λ r. ⌜ ((B n : ℕ) → first .0 ≡ firstUsable B → last .0 ≡ lastUsable B n → r ≡ okEntry B n (part (now (img .entry)) (at .0) 128)) ⌝ }
 {
-    if units::inner::all_zero(img, at.0, 16) {
+    if partition::inner::nil_type_at(img, at) {
         return units::inner::all_zero(img, at.0, 128);
     }
-    let from = first_of(img, at);
-    let to = last_of(img, at);
+    let from = partition::inner::first_at(img, at);
+    let to = partition::inner::last_at(img, at);
     (from.0 <= to.0) & ((first.0 <= from.0) & (to.0 <= last.0))
 }
 
 // The same of each of the 128 entries.
 fn each_ok(img: &[u8], at: BytePlace, first: Lba, last: Lba) -> bool
     requires { ⌜ at .0 + 16384 ≤ length (now img) ⌝ }
-    ensures { λ r. ⌜ ((B n : ℕ) → first .0 ≡ firstUsable B → last .0 ≡ lastUsable B n → r ≡ all 128 (λ (k : ℕ). okEntry B n (entry (part (now (img .entry)) (at .0) 16384) k))) ⌝ }
+    ensures { λ r. ⌜ ((B n : ℕ) → first .0 ≡ firstUsable B → last .0 ≡ lastUsable B n → r ≡ allOk B n (part (now (img .entry)) (at .0) 16384)) ⌝ }
 {
     let mut k = 0;
     while k < 128 {
-        if !entry_ok(img, entry_place(at, k), first, last) {
+        if !entry_ok(img, partition::inner::entry_place(at, k), first, last) {
             return false;
         }
         k += 1;
@@ -151,32 +133,32 @@ fn each_ok(img: &[u8], at: BytePlace, first: Lba, last: Lba) -> bool
 }
 
 // Whether the entry at a place is used and shares a block with a used entry that has the blocks from first to last.
-pub fn meets(img: &[u8], at: BytePlace, first: Lba, last: Lba) -> bool
+pub fn overlaps(img: &[u8], at: BytePlace, first: Lba, last: Lba) -> bool
     requires { ⌜ at .0 + 128 ≤ length (now img) ⌝ }
-    ensures { λ r. ⌜ ((e : List ℕ) → used e ≡ true → first .0 ≡ firstOf e → last .0 ≡ lastOf e → r ≡ clash e (part (now (img .entry)) (at .0) 128)) ⌝ }
+    ensures { λ r. ⌜ ((e : List ℕ) → used e ≡ true → first .0 ≡ firstOf e → last .0 ≡ lastOf e → r ≡ overlaps e (part (now (img .entry)) (at .0) 128)) ⌝ }
 {
-    if units::inner::all_zero(img, at.0, 16) {
+    if partition::inner::nil_type_at(img, at) {
         return false;
     }
-    let from = first_of(img, at);
-    let to = last_of(img, at);
+    let from = partition::inner::first_at(img, at);
+    let to = partition::inner::last_at(img, at);
     (first.0 <= to.0) & (from.0 <= last.0)
 }
 
 // Whether entry k shares no block with an entry before it.
 fn apart_below(img: &[u8], at: BytePlace, k: usize) -> bool
     requires { ⌜ (at .0 + 16384 ≤ length (now img)) × (k < 128) ⌝ }
-    ensures { λ r. ⌜ r ≡ all k (λ (j : ℕ). not (clash (entry (part (now (img .entry)) (at .0) 16384) k) (entry (part (now (img .entry)) (at .0) 16384) j))) ⌝ }
+    ensures { λ r. ⌜ r ≡ all k (λ (j : ℕ). not (overlaps (entry (part (now (img .entry)) (at .0) 16384) k) (entry (part (now (img .entry)) (at .0) 16384) j))) ⌝ }
 {
-    let own = entry_place(at, k);
-    if units::inner::all_zero(img, own.0, 16) {
+    let own = partition::inner::entry_place(at, k);
+    if partition::inner::nil_type_at(img, own) {
         return true;
     }
-    let first = first_of(img, own);
-    let last = last_of(img, own);
+    let first = partition::inner::first_at(img, own);
+    let last = partition::inner::last_at(img, own);
     let mut j = 0;
     while j < k {
-        if meets(img, entry_place(at, j), first, last) {
+        if overlaps(img, partition::inner::entry_place(at, j), first, last) {
             return false;
         }
         j += 1;
@@ -189,10 +171,10 @@ fn starts_after(img: &[u8], own: BytePlace, top: Lba) -> bool
     requires { ⌜ own .0 + 128 ≤ length (now img) ⌝ }
     ensures { λ r. ⌜ r ≡ startsAfter (part (now (img .entry)) (own .0) 128) (top .0) ⌝ }
 {
-    if units::inner::all_zero(img, own.0, 16) {
+    if partition::inner::nil_type_at(img, own) {
         return true;
     }
-    let first = first_of(img, own);
+    let first = partition::inner::first_at(img, own);
     top.0 < first.0
 }
 
@@ -201,10 +183,10 @@ fn greatest_last(img: &[u8], own: BytePlace, top: Lba) -> Lba
     requires { ⌜ own .0 + 128 ≤ length (now img) ⌝ }
     ensures { λ r. ⌜ r .0 ≡ greatestLast (part (now (img .entry)) (own .0) 128) (top .0) ⌝ }
 {
-    if units::inner::all_zero(img, own.0, 16) {
+    if partition::inner::nil_type_at(img, own) {
         return top;
     }
-    let last = last_of(img, own);
+    let last = partition::inner::last_at(img, own);
     if top.0 < last.0 {
         return last;
     }
@@ -215,9 +197,9 @@ fn greatest_last(img: &[u8], own: BytePlace, top: Lba) -> Lba
 fn apart_from(img: &[u8], at: BytePlace, k: usize, top: Lba) -> bool
     requires { ⌜ (at .0 + 16384 ≤ length (now img)) × (k < 128) ⌝ }
     requires { ⌜ Below (part (now img) (at .0) 16384) k (top .0) ⌝ }
-    ensures { λ r. ⌜ r ≡ all k (λ (j : ℕ). not (clash (entry (part (now (img .entry)) (at .0) 16384) k) (entry (part (now (img .entry)) (at .0) 16384) j))) ⌝ }
+    ensures { λ r. ⌜ r ≡ all k (λ (j : ℕ). not (overlaps (entry (part (now (img .entry)) (at .0) 16384) k) (entry (part (now (img .entry)) (at .0) 16384) j))) ⌝ }
 {
-    if starts_after(img, entry_place(at, k), top) {
+    if starts_after(img, partition::inner::entry_place(at, k), top) {
         return true;
     }
     apart_below(img, at, k)
@@ -226,7 +208,7 @@ fn apart_from(img: &[u8], at: BytePlace, k: usize, top: Lba) -> bool
 // Whether no two entries share a block. Entries in the order of their blocks are passed through once.
 fn all_apart(img: &[u8], at: BytePlace) -> bool
     requires { ⌜ at .0 + 16384 ≤ length (now img) ⌝ }
-    ensures { λ r. ⌜ r ≡ all 128 (λ (j : ℕ). all 128 (λ (k : ℕ). pick (eqb j k) true (not (clash (entry (part (now (img .entry)) (at .0) 16384) j) (entry (part (now (img .entry)) (at .0) 16384) k))))) ⌝ }
+    ensures { λ r. ⌜ r ≡ allApart (part (now (img .entry)) (at .0) 16384) ⌝ }
 {
     let mut top = Lba(0);
     let mut k = 0;
@@ -234,95 +216,111 @@ fn all_apart(img: &[u8], at: BytePlace) -> bool
         if !apart_from(img, at, k, top) {
             return false;
         }
-        top = greatest_last(img, entry_place(at, k), top);
+        top = greatest_last(img, partition::inner::entry_place(at, k), top);
         k += 1;
     }
     true
 }
 
-// What 16 tests of the array at a place.
-fn entries_ok(img: &[u8], at: BytePlace, b: u64) -> bool
-    requires { ⌜ (roomCheck b (length (now img)) ≡ 0) × (at .0 + 16384 ≤ length (now img)) ⌝ }
-    ensures { λ r. ⌜ r ≡ entriesOk b (length (now (img .entry))) (part (now (img .entry)) (at .0) 16384) ⌝ }
+// What 16 (wrong layout) tests of a copy's array.
+pub fn entries_ok(copy: &[u8], len: usize, b: u64, back: bool) -> bool
+    requires { ⌜ (roomCheck b len .number ≡ 0) × (length (now copy) ≡ b + 16384) ⌝ }
+    ensures { λ r. ⌜ r ≡ entriesOk b len (copyIn b (sideOf back) (now (copy .entry)) .array) ⌝ }
 {
+    let at = tables::inner::array_in(b, back);
     let first = tables::inner::first_usable(b);
-    let last = tables::inner::last_usable(img.len(), b);
-    if !each_ok(img, at, first, last) {
+    let last = tables::inner::last_usable(len, b);
+    if !each_ok(copy, at, first, last) {
         return false;
     }
-    all_apart(img, at)
+    all_apart(copy, at)
 }
 
-// 17, where the GUIDs differ or the arrays do not agree, and 16 of the entries. The headers are at front and back, the array at array.
-fn pair_number(
-    img: &[u8],
-    front: BytePlace,
-    back: BytePlace,
-    array: BytePlace,
-    agree: bool,
-    b: u64,
-) -> u32
-    requires { ⌜ (roomCheck b (length (now img)) ≡ 0) × (array .0 + 16384 ≤ length (now img)) ⌝ }
-    requires { ⌜ (front .0 + 92 ≤ length (now img)) × (back .0 + 92 ≤ length (now img)) ⌝ }
-    ensures { λ r. ⌜ r ≡ orElse (when (not (same (part (now (img .entry)) (front .0 + 56) 16) (part (now (img .entry)) (back .0 + 56) 16) && agree)) 17) (when (not (entriesOk b (length (now (img .entry))) (part (now (img .entry)) (array .0) 16384))) 16) ⌝ }
+// 17 the tables differ, in their GUIDs or their arrays; 16 an entry of the front array is wrong.
+fn pair_check<'a>(front: &'a [u8], back: &'a [u8], agree: bool, len: usize, b: u64) -> Why
+    requires { ⌜ (roomCheck b len .number ≡ 0) × (length (now front) ≡ b + 16384) × (length (now back) ≡ b + 16384) ⌝ }
+    requires { ⌜ agree ≡ same (copyIn b Front (now front) .array) (copyIn b Back (now back) .array) ⌝ }
+    ensures { λ r. ⌜ r ≡ tablesCheck b len (copies b (now (front .entry)) (now (back .entry))) ⌝ }
 {
-    if !(same_parts(img, BytePlace(front.0 + 56), BytePlace(back.0 + 56), 16) & agree) {
-        return 17;
+    if !(same_in(front, BytePlace(56), back, BytePlace(16384 + 56), 16) & agree) {
+        return why::DISAGREE;
     }
-    if !entries_ok(img, array, b) {
-        return 16;
+    if !entries_ok(front, len, b, false) {
+        return why::WRONG_LAYOUT;
     }
-    0
+    why::FINE
 }
 
-// All that the check reads of an image with room for two tables.
-fn tables_number<'a>(t: &'a [u32; 4096], img: &'a [u8], b: u64) -> u32
+// The check of the two tables of a card that has room for them.
+pub fn copies_check<'a>(
+    t: &'a [u32; 4096],
+    front: &'a [u8],
+    back: &'a [u8],
+    len: usize,
+    b: u64,
+) -> Why
     requires { ⌜ Rows 16 (now t) ⌝ }
-    requires { ⌜ roomCheck b (length (now img)) ≡ 0 ⌝ }
+    requires { ⌜ (roomCheck b len .number ≡ 0) × (length (now front) ≡ b + 16384) × (length (now back) ≡ b + 16384) ⌝ }
+    ensures { λ r. ⌜ r ≡ check b len (copies b (now (front .entry)) (now (back .entry))) ⌝ }
+{
+    let array = tables::inner::array_in(b, false);
+    let other = tables::inner::array_in(b, true);
+    let agree = same_in(front, array, back, other, 16384);
+    let sum = tables::inner::array_sum(t, front, b, false);
+    let front_found = copy_check(t, front, len, b, false, sum);
+    if front_found.number != 0 {
+        return front_found;
+    }
+    let other_sum = back_sum(t, back, b, agree, sum);
+    let back_found = copy_check(t, back, len, b, true, other_sum);
+    if back_found.number != 0 {
+        return back_found;
+    }
+    pair_check(front, back, agree, len, b)
+}
+
+// The check of an image, for the calls that it comes first in: they lend the check sum's table, and use it again.
+pub fn check_with<'a>(t: &'a [u32; 4096], img: &'a [u8], b: u64) -> Why
+    requires { ⌜ Rows 16 (now t) ⌝ }
     ensures { λ r. ⌜ r ≡ check b (length (now (img .entry))) (tables b (now (img .entry))) ⌝ }
 {
     let len = img.len();
-    let front = tables::inner::header_place(len, b, false);
-    let back = tables::inner::header_place(len, b, true);
-    let array = tables::inner::array_place(len, b, false);
-    let other = tables::inner::array_place(len, b, true);
-    let agree = same_parts(img, array, other, 16384);
-    let sum = tables::inner::array_sum(t, img, array);
-    let front_found = copy_number(t, img, front, b, false, sum);
-    if front_found != 0 {
-        return front_found;
-    }
-    let other_sum = back_sum(t, img, other, agree, sum);
-    let back_found = copy_number(t, img, back, b, true, other_sum);
-    if back_found != 0 {
-        return back_found;
-    }
-    pair_number(img, front, back, array, agree, b)
-}
-
-// The number of the check, for the calls that it comes first in: they lend the check sum's table, and use it again.
-pub fn check_with<'a>(t: &'a [u32; 4096], img: &'a [u8], b: u64) -> u32
-    requires { ⌜ Rows 16 (now t) ⌝ }
-    ensures { λ r. ⌜ r ≡ check b (length (now (img .entry))) (tables b (now (img .entry))) ⌝ }
-{
-    let room = tables::inner::room_number(img.len(), b);
-    if room != 0 {
+    let room = tables::inner::room_check(len, b);
+    if room.number != 0 {
         return room;
     }
-    tables_number(t, img, b)
+    let size = b as usize;
+    let at = tables::inner::back_place(len, b);
+    let from = at.0;
+    copies_check(
+        t,
+        &img[size..size + (size + 16384)],
+        &img[from..from + (size + 16384)],
+        len,
+        b,
+    )
 }
 
-// The same with a table of its own.
-pub fn check_number(img: &[u8], b: u64) -> u32
-    ensures { λ r. ⌜ r ≡ check b (length (now (img .entry))) (tables b (now (img .entry))) ⌝ }
+// 18 (bad slot) after the check: the tests of a call on one slot.
+pub fn slot_check<'a>(t: &'a [u32; 4096], img: &'a [u8], b: u64, slot: Slot) -> Why
+    requires { ⌜ Rows 16 (now t) ⌝ }
+    ensures { λ r. ⌜ r ≡ slotCheck b (length (now (img .entry))) (tables b (now (img .entry))) (slot .0) ⌝ }
 {
-    let t = crc32::inner::table();
-    check_with(&t, img, b)
+    let found = check_with(t, img, b);
+    if found.number != 0 {
+        return found;
+    }
+    if tables::inner::bad_slot(slot) {
+        return why::BAD_SLOT;
+    }
+    why::FINE
 }
 
 // The card check.
 pub fn check(img: &[u8], b: u64) -> Verdict
     ensures { λ r. ⌜ verdictMeans r ≡ checkAnswer b (now (img .entry)) ⌝ }
 {
-    tables::inner::verdict_of(check_number(img, b))
+    let t = crc32::inner::table();
+    let found = check_with(&t, img, b);
+    found.verdict()
 }

@@ -1,17 +1,8 @@
-// The check sum for C, and for the measurement in bench/crc.c. A slice crosses as a pointer and a length.
+// The check sum of a header for C, for the measurement in bench/crc.c alone: the library for C has `gpt_crc32`. A slice crosses as a pointer and a length.
 ghost use mathlib.Core.Path.{_≡_};
 ghost use Prim.Native.Nat.{_+_, _≤_};
-ghost use Rattle.crc32.specs.Crc.{crc};
 ghost use Rattle.crc32_c.specs.Exports.{exportedSum, exportedSums, nextPlace};
 use crc32::inner;
-
-// The check sum of s.
-#[no_mangle]
-pub extern "C" fn rt_crc32(s: &[u8]) -> u32
-    ensures { λ r. ⌜ r ≡ crc (now (s .entry)) ⌝ }
-{
-    crc32::crc32(s)
-}
 
 // The check sum of the header in the first 92 bytes of h, with zero for its own field; 0 where h has fewer bytes.
 #[no_mangle]

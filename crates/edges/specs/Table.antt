@@ -32,7 +32,7 @@ unfoldable pub sameAnswer : Answer (List ℕ) → Answer (List ℕ) → Bool
 sameAnswer (accepted xs) (accepted ys) = same xs ys
 sameAnswer (accepted xs) (refused w) = false
 sameAnswer (refused v) (accepted ys) = false
-sameAnswer (refused v) (refused w) = eqb (v .number) (w .number) && eqb (v .slot) (w .slot)
+sameAnswer (refused v) (refused w) = eqb (v .number) (w .number) && (eqb (v .slot .0) (w .slot .0) && eqb (v .place) (w .place))
 
 -- every case of a table gives what the document says
 unfoldable pub allPass : List Case → Bool

@@ -14,7 +14,8 @@ use denote.Shadow.{shadow}
 use denote.Struct.Declared.{row}
 use mir.Val.{Val}
 use Rattle.units.specs.declared.Guid.{Guid}
-use Rattle.units.specs.Answer.{Why, Answer, accepted, refused, numberOf, refuse, pick, Outcome, gives}
+use Rattle.units.specs.declared.why.Why.{Why}
+use Rattle.units.specs.Answer.{Answer, accepted, refused, numberOf, refuse, pick, Outcome, gives}
 use Rattle.units.specs.Bytes.{part, num, bytes, total, laid, same}
 use Rattle.units.specs.Guids.{guidBytes}
 use Rattle.units.specs.Places.{goodSize, inside, insideOrEmpty}

@@ -12,7 +12,8 @@ use lib.Seq.{sets}
 use borrow.Author.Tests.{eq-eqb, ne-eqb, le-ltb, lt-leb, ltb-false, not-false}
 use Rattle.units.specs.declared.Lba.{Lba}
 use Rattle.units.specs.declared.BytePlace.{BytePlace}
-use Rattle.units.specs.Answer.{Why, Answer, accepted, refused, refuse, pick, andThen, gives}
+use Rattle.units.specs.declared.why.Why.{Why}
+use Rattle.units.specs.Answer.{Answer, accepted, refused, refuse, pick, andThen, gives}
 use Rattle.units.specs.Bytes.{part, same}
 use Rattle.units.specs.Places.{goodSize, inside, insideOrEmpty, placeOf, blockOf}
 use Rattle.units.proofs.Laws.{size-range, size-past, place-over, place-fits}

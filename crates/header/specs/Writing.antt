@@ -25,33 +25,14 @@ partsSum xs h b =
     (pick (not (insideOrEmpty (length xs) (h .«part_start» .0 * b) (arrayBytes h))) (refuse 2)
     (accepted (crc (part xs (h .«part_start» .0 * b) (arrayBytes h))))))
 
--- the header as it is stored: reserved is 0
-abbrev pub stored : Header → Header
-stored h =
-    record {
-      revision = h .revision;
-      «header_size_le» = h .«header_size_le»;
-      crc32 = h .crc32;
-      reserved = 0;
-      «current_lba» = h .«current_lba»;
-      «backup_lba» = h .«backup_lba»;
-      «first_usable» = h .«first_usable»;
-      «last_usable» = h .«last_usable»;
-      «disk_guid» = h .«disk_guid»;
-      «part_start» = h .«part_start»;
-      «num_parts» = h .«num_parts»;
-      «part_size» = h .«part_size»;
-      «crc32_parts» = h .«crc32_parts»;
-    }
-
--- the header with two given sums, all else as it was
-abbrev pub summed : Header → ℕ → ℕ → Header
-summed h own parts =
+-- the header with its reserved field and its two sums given, all else as it was
+abbrev pub filled : Header → ℕ → ℕ → ℕ → Header
+filled h reserved own parts =
     record {
       revision = h .revision;
       «header_size_le» = h .«header_size_le»;
       crc32 = own;
-      reserved = h .reserved;
+      reserved = reserved;
       «current_lba» = h .«current_lba»;
       «backup_lba» = h .«backup_lba»;
       «first_usable» = h .«first_usable»;
@@ -62,6 +43,14 @@ summed h own parts =
       «part_size» = h .«part_size»;
       «crc32_parts» = parts;
     }
+
+-- the header as it is stored: reserved is 0
+abbrev pub stored : Header → Header
+stored h = filled h 0 (h .crc32) (h .«crc32_parts»)
+
+-- the header with two given sums
+abbrev pub summed : Header → ℕ → ℕ → Header
+summed h own parts = filled h (h .reserved) own parts
 
 -- the header with the array's sum and then its own, over the bytes that are stored
 unfoldable pub withSums : Header → ℕ → Header

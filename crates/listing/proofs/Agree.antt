@@ -9,30 +9,33 @@ use borrow.Author.Tests.{lt-ltb, le-ltb}
 use lib.Dec.{ltb}
 use lib.ListN.{length, take, drop, getD, drop-of-length-le}
 use lib.Seq.{drop-cons}
-use Rattle.units.specs.Answer.{Answer, accepted, andThen, beside}
+use Rattle.units.proofs.Chains.{when-none, judged-none, judged-zero, found, number-of}
+use Rattle.units.specs.declared.why.Why.{Why}
+use Rattle.units.specs.Answer.{refused, ifZero, judged, plain, Answer, accepted, andThen, beside}
 use Rattle.units.specs.Bytes.{allZero}
 use Rattle.partition.specs.Format.{entryAt}
 use Rattle.partition.specs.Array.{entryPlace, presentFrom, firstSlot}
 use Rattle.tables.specs.Lens.{Tables, tables}
 use Rattle.tables.specs.Check.{check}
-use Rattle.tables.specs.Calls.{judged}
-use Rattle.tables.specs.Listing.{Listed, presentSlots, listed, countAnswer, nextAnswer, slotRead, nthAnswer, entriesAnswer}
-use Rattle.tables.proofs.Orders.{split, when-none}
-use Rattle.tables.proofs.State.{judged-none, judged-zero}
-use Rattle.tables.proofs.Listings.{entry-place, after-first, after-last}
+use Rattle.listing.specs.Listing.{Listed, presentSlots, listed, countAnswer, nextAnswer, slotRead, nthAnswer, entriesAnswer}
+use Rattle.tables.proofs.Orders.{split}
+use Rattle.listing.proofs.Scans.{entry-place, after-first, after-last}
 use Rattle.listing.specs.Meanings.{firstUsed, nthReading}
-use Rattle.listing.proofs.Ways.{clear-is, slot-range, slot-good}
+use Rattle.listing.proofs.Ways.{slot-is, slot-range, slot-good}
 
 -- ---- answers and the lists in them
 
 -- an accepted value changed by a function
-judged-map : {A C : Type 0} (f : A → C) (k s : ℕ) (v : A) → andThen (judged k s v) (λ x. accepted (f x)) ≡ judged k s (f v)
+pub judged-map : {A C : Type 0} (f : A → C) (k : Why) (v : A) → andThen (judged k v) (λ x. accepted (f x)) ≡ judged k (f v)
 unfolding judged
-judged-map f zero s v = refl
-judged-map f (suc k) s v = refl
+judged-map {A} {C} f k v = by (k .number)
+  where
+    by : (n : ℕ) → andThen (ifZero n (accepted v) (refused k)) (λ x. accepted (f x)) ≡ ifZero {X = Answer C} n (accepted (f v)) (refused k)
+    by zero = refl
+    by (suc n) = refl
 
-judged-value : {A : Type 0} (k s : ℕ) (v u : A) → judged k s v ≡ accepted u → v ≡ u
-judged-value k s v u e = let q : accepted v ≡ accepted u = sym (judged-none v k s (judged-zero v k s u e)) ∙ e in cc
+judged-value : {A : Type 0} (k : Why) (v u : A) → judged k v ≡ accepted u → v ≡ u
+judged-value k v u e = let q : accepted v ≡ accepted u = sym (judged-none v k (judged-zero v k u e)) ∙ e in cc
 
 -- the slots alone
 abbrev pub slots : List Listed → List ℕ
@@ -66,12 +69,12 @@ module _ (B : ℕ) (xs : List ℕ) where
 
   pub nth-is-listed : (k : ℕ) → nthAnswer B xs k ≡ andThen (entriesAnswer B xs) (λ l. accepted (take 1 (drop k l)))
   nth-is-listed k =
-      ap (judged (check B (length xs) (tables B xs)) 0) (take-map (listed (tables B xs)) k (presentSlots (tables B xs)))
-      ∙ sym (judged-map (λ (l : List Listed). take 1 (drop k l)) (check B (length xs) (tables B xs)) 0 (map (listed (tables B xs)) (presentSlots (tables B xs))))
+      ap (judged (check B (length xs) (tables B xs))) (take-map (listed (tables B xs)) k (presentSlots (tables B xs)))
+      ∙ sym (judged-map (λ (l : List Listed). take 1 (drop k l)) (check B (length xs) (tables B xs)) (map (listed (tables B xs)) (presentSlots (tables B xs))))
 
   -- what used slot k tells, where there is one
   record Told (k : ℕ) (e : Listed) : Type 0 where
-    checked : check B (length xs) (tables B xs) ≡ 0
+    checked : check B (length xs) (tables B xs) .number ≡ 0
     below : k < length (presentSlots (tables B xs))
     told : listed (tables B xs) (getD (presentSlots (tables B xs)) k 0) ≡ e
 
@@ -79,20 +82,20 @@ module _ (B : ℕ) (xs : List ℕ) where
   nth-told k e q =
       let t : Tables = tables B xs in
       let l : List ℕ = presentSlots (tables B xs) in
-      let v : map (listed (tables B xs)) (take 1 (drop k (presentSlots (tables B xs)))) ≡ e ∷ [] = judged-value (check B (length xs) (tables B xs)) 0 _ (e ∷ []) q in
+      let v : map (listed (tables B xs)) (take 1 (drop k (presentSlots (tables B xs)))) ≡ e ∷ [] = judged-value (check B (length xs) (tables B xs)) _ (e ∷ []) q in
       let h : k < length (presentSlots (tables B xs)) =
       split (length (presentSlots (tables B xs))) k
       (λ h. let z = ap length (sym (ap (λ (r : List ℕ). map (listed t) (take 1 r)) (drop-of-length-le l h)) ∙ v) in absurd (omega arith))
       (λ h. h) in
       let w : listed t (getD (presentSlots (tables B xs)) k 0) ∷ [] ≡ e ∷ [] = sym (ap (λ (r : List ℕ). map (listed t) (take 1 r)) (drop-cons l k 0 h)) ∙ v in
-      record { checked = judged-zero _ (check B (length xs) (tables B xs)) 0 (e ∷ []) q; below = h; told = cc }
+      record { checked = judged-zero _ (check B (length xs) (tables B xs)) (e ∷ []) q; below = h; told = cc }
 
   -- ---- by order and by the next slot
 
-  slots-of-nth : (k : ℕ) → andThen (nthAnswer B xs k) (λ l. accepted (slots l)) ≡ judged (check B (length xs) (tables B xs)) 0 (take 1 (drop k (presentSlots (tables B xs))))
+  slots-of-nth : (k : ℕ) → andThen (nthAnswer B xs k) (λ l. accepted (slots l)) ≡ judged (check B (length xs) (tables B xs)) (take 1 (drop k (presentSlots (tables B xs))))
   slots-of-nth k =
-      judged-map slots (check B (length xs) (tables B xs)) 0 (map (listed (tables B xs)) (take 1 (drop k (presentSlots (tables B xs)))))
-      ∙ ap (judged (check B (length xs) (tables B xs)) 0) (slots-listed (tables B xs) (take 1 (drop k (presentSlots (tables B xs)))))
+      judged-map slots (check B (length xs) (tables B xs)) (map (listed (tables B xs)) (take 1 (drop k (presentSlots (tables B xs)))))
+      ∙ ap (judged (check B (length xs) (tables B xs))) (slots-listed (tables B xs) (take 1 (drop k (presentSlots (tables B xs)))))
 
   -- used slot 0 is the next after slot 0
   pub first-is-next : andThen (nthAnswer B xs 0) (λ l. accepted (slots l)) ≡ nextAnswer B xs 0
@@ -107,7 +110,7 @@ module _ (B : ℕ) (xs : List ℕ) where
       let s : getD (presentSlots (tables B xs)) k 0 ≡ e .slot = ap (λ (d : Listed). d .slot) (r .told) in
       let o : k + 1 ≡ suc k = omega arith in
       slots-of-nth (k + 1)
-      ∙ ap (λ (l : List ℕ). judged (check B (length xs) (tables B xs)) 0 (take 1 l))
+      ∙ ap (λ (l : List ℕ). judged (check B (length xs) (tables B xs)) (take 1 l))
       (ap (λ (i : ℕ). drop i (presentSlots (tables B xs))) o
       ∙ left (tables B xs .front .array) k 0 (r .below)
       ∙ ap (λ (i : ℕ). presentFrom (tables B xs .front .array) 0 i (128 - i)) s)
@@ -118,10 +121,10 @@ module _ (B : ℕ) (xs : List ℕ) where
   unfolding beside firstUsed
   count-is-all k m e =
       let l : List ℕ = presentSlots (tables B xs) in
-      let n : length (presentSlots (tables B xs)) ≡ m = judged-value (check B (length xs) (tables B xs)) 0 _ m e in
-      let z = judged-zero _ (check B (length xs) (tables B xs)) 0 m e in
+      let n : length (presentSlots (tables B xs)) ≡ m = judged-value (check B (length xs) (tables B xs)) _ m e in
+      let z = judged-zero _ (check B (length xs) (tables B xs)) m e in
       let f : List ℕ → Bool = λ (r : List ℕ). firstUsed (map (listed (tables B xs)) (take 1 r)) .found in
-      ap (λ (r : Answer (List Listed)). nthReading r .value .found) (judged-none _ (check B (length xs) (tables B xs)) 0 z)
+      ap (λ (r : Answer (List Listed)). nthReading r .value .found) (judged-none _ (check B (length xs) (tables B xs)) z)
       ∙ split m k
       (λ h. ap f (drop-of-length-le l {i = k} (omega arith)) ∙ sym (le-ltb k m h))
       (λ h. ap f (drop-cons l k 0 (omega arith)) ∙ sym (lt-ltb k m h))
@@ -134,8 +137,8 @@ module _ (B : ℕ) (xs : List ℕ) where
       let arr : List ℕ = tables B xs .front .array in
       let s : ℕ = getD (presentSlots (tables B xs)) k 0 in
       let g = slot-range B xs k (r .below) in
-      let c = clear-is B xs (judged-none tt _ 0 (r .checked)) s ∙ when-none _ 18 (slot-good B xs k refl (λ z. omega (arith, g .0))) in
+      let c = number-of (slot-is B xs (judged-none tt _ (r .checked)) s) ∙ when-none _ (plain 18) (slot-good B xs k refl (λ z. omega (arith, g .0))) in
       subst (λ (d : Listed). slotRead B xs (d .slot) ≡ accepted (record { present = true; partition = d .partition })) (r .told)
-      (judged-none _ _ 0 c
+      (judged-none _ _ c
       ∙ ap (λ (t : Bool). accepted (record { present = t; partition = entryAt arr (entryPlace 0 (s - 1)) }))
       (ap (λ (x : List ℕ). not (allZero x)) (entry-place arr (s - 1)) ∙ g .2))

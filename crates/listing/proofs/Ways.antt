@@ -8,56 +8,48 @@ use native.Mathlib.Omega.{arith}
 use borrow.Author.Tests.{le-leb, le-ltb}
 use lib.ListN.{length, take, drop, getD, drop-of-length-le, List·getD-eq-default}
 use lib.Seq.{drop-cons, drop-drop, getD-drop}
-use Rattle.units.specs.Answer.{Why, Answer, accepted, refused, Beside, beside}
+use Rattle.units.specs.declared.why.Why.{Why}
+use Rattle.units.specs.declared.Refusal.{Refusal}
+use Rattle.units.specs.Refusals.{why, refusalOf, refusedBy}
+use Rattle.units.proofs.Chains.{past, else-first, judged-none, judged-zero, judged-some, number-of}
+use Rattle.units.specs.Answer.{ifZero, when, plain, judged, Answer, accepted, refused, Beside, beside}
 use Rattle.units.specs.Bytes.{part, allZero}
-use Rattle.units.specs.Places.{inside, insideOrEmpty, arrayPlaceOf}
-use Rattle.units.proofs.Laws.{pick-refused, pick-accepted}
+use Rattle.units.specs.Places.{inside, insideOrEmpty}
 use Rattle.partition.specs.declared.Partition.{Partition}
 use Rattle.partition.specs.Format.{entryAt, zeroPartition}
 use Rattle.partition.specs.Array.{entryPlace, present, presentFrom, firstSlot, readingOf}
 use Rattle.partition.proofs.Laws.{next-none, next-some}
-use Rattle.tables.specs.Checks.{when, orElse}
 use Rattle.tables.specs.Lens.{tables}
-use Rattle.tables.specs.Entries.{entry}
-use Rattle.tables.specs.Check.{roomCheck, check}
-use Rattle.tables.specs.Calls.{judged, checkAnswer, badSlot, clearNumber}
-use Rattle.tables.specs.Listing.{presentSlots, listed, countAnswer, nextAnswer, slotRead, nthAnswer}
-use Rattle.tables.proofs.Orders.{split, else-first, else-skip, else-take, when-none, when-true}
+use Rattle.tables.specs.Check.{roomCheck, check, checkAnswer, badSlot, slotCheck}
+use Rattle.listing.specs.Listing.{presentSlots, listed, countAnswer, nextAnswer, slotRead, nthAnswer}
+use Rattle.tables.proofs.Orders.{split}
 use Rattle.tables.proofs.Room.{Room}
-use Rattle.tables.proofs.Good.{room-ok}
-use Rattle.tables.proofs.State.{judged-none, judged-zero}
-use Rattle.tables.proofs.Changes.{slot-ok}
-use Rattle.tables.proofs.Listings.{entry-in-image, present-in-image, first-in-image, slots-in-image, entry-place, after-first, after-last, from-each}
+use Rattle.tables.proofs.Good.{room-ok, slot-ok}
+use Rattle.checking.proofs.CheckWays.{slot-good as slot-passed, named-slot}
+use Rattle.listing.proofs.Scans.{entry-in-image, present-in-image, first-in-image, slots-in-image, entry-place, after-first, after-last, from-each}
 use Rattle.listing.specs.Meanings.{Used, firstUsed, nthReading}
 
 -- ---- a verdict of the check, and the answer of a call that it comes first in
 
-pub judged-refuses : {A : Type 0} (v : A) (k : ℕ) {w : Why} → _≡_ {A = Answer Unit} (judged k 0 tt) (refused w) → judged k 0 v ≡ refused w
+pub judged-refuses : {A : Type 0} (v : A) (k : Why) {w : Why} → _≡_ {A = Answer Unit} (judged k tt) (refused w) → judged k v ≡ refused w
 unfolding judged
-judged-refuses v zero q = absurd (let z : _≡_ {A = ℕ} 0 1 = cc in omega arith)
-judged-refuses v (suc k) {w} q = let y : record { number = suc k; slot = 0 } ≡ w = cc in ap refused y
+judged-refuses {A} v k {w} q = by (k .number) q
+  where
+    by : (n : ℕ) → _≡_ {A = Answer Unit} (ifZero n (accepted tt) (refused k)) (refused w) → _≡_ {A = Answer A} (ifZero n (accepted v) (refused k)) (refused w)
+    by zero e = absurd (let z : _≡_ {A = ℕ} 0 1 = cc in omega arith)
+    by (suc n) e = let y : k ≡ w = cc in ap refused y
 
-pub judged-accepts : {A : Type 0} (v : A) (k : ℕ) → _≡_ {A = Answer Unit} (judged k 0 tt) (accepted tt) → judged k 0 v ≡ accepted v
-judged-accepts v k e = judged-none v k 0 (judged-zero tt k 0 tt e)
-
--- a number that refuses is not 0
-pub refused-some : (k : ℕ) {w : Why} → _≡_ {A = Answer Unit} (judged k 0 tt) (refused w) → k ≡ 0 → ⊥
-refused-some k {w} e z =
-    let q : _≡_ {A = Answer Unit} (accepted tt) (refused w) = sym (judged-none tt k 0 z) ∙ e in
-    let o : _≡_ {A = ℕ} 0 1 = cc in
-    omega arith
-
-pub else-refuses : {A : Type 0} (v : A) (k m : ℕ) {w : Why} → _≡_ {A = Answer Unit} (judged k 0 tt) (refused w) → judged (orElse k m) 0 v ≡ refused w
-else-refuses v k m e = ap (λ (i : ℕ). judged i 0 v) (else-take k m (refused-some k e)) ∙ judged-refuses v k e
+pub judged-accepts : {A : Type 0} (v : A) (k : Why) → _≡_ {A = Answer Unit} (judged k tt) (accepted tt) → judged k v ≡ accepted v
+judged-accepts v k e = judged-none v k (judged-zero tt k tt e)
 
 -- the check has seen that there is room
-pub check-room : (B : ℕ) (xs : List ℕ) → checkAnswer B xs ≡ accepted tt → roomCheck B (length xs) ≡ 0
+pub check-room : (B : ℕ) (xs : List ℕ) → checkAnswer B xs ≡ accepted tt → roomCheck B (length xs) .number ≡ 0
 unfolding check
-check-room B xs e = else-first (roomCheck B (length xs)) _ (judged-zero tt (check B (length xs) (tables B xs)) 0 tt e)
+check-room B xs e = else-first (roomCheck B (length xs)) _ (judged-zero tt (check B (length xs) (tables B xs)) tt e)
 
 -- ---- the leaves: what they read of the image is what the front table has
 
-module _ (B : ℕ) (xs : List ℕ) (h : roomCheck B (length xs) ≡ 0) where
+module _ (B : ℕ) (xs : List ℕ) (h : roomCheck B (length xs) .number ≡ 0) where
   room : Room B (length xs)
   room = room-ok B (length xs) h
 
@@ -68,8 +60,8 @@ module _ (B : ℕ) (xs : List ℕ) (h : roomCheck B (length xs) ≡ 0) where
   unfolding insideOrEmpty inside
   array-inside e = rw (e, le-leb (B + B + 16384) (length xs) array-end)
 
-  pub entry-inside : {at : ℕ} (s : ℕ) → badSlot s ≡ false → at ≡ entryPlace (B + B) (s - 1) → at + 128 ≤ length xs
-  entry-inside s k e = omega (arith, array-end, slot-ok s k .1, e)
+  pub slot-inside-image : {at : ℕ} (s : ℕ) → badSlot s ≡ false → at ≡ B + B + 128 * (s - 1) → at + 128 ≤ length xs
+  slot-inside-image s k e = omega (arith, array-end, slot-ok s k .1, e)
 
 module _ (B : ℕ) (xs : List ℕ) {at : ℕ} where
   pub counted : {r : ℕ} → at ≡ B + B → r ≡ length (presentFrom xs at 0 128) → r ≡ length (presentSlots (tables B xs))
@@ -126,14 +118,6 @@ module _ (B : ℕ) (xs : List ℕ) {w : Why} (e : checkAnswer B xs ≡ refused w
   unfolding beside firstUsed
   nth-refused k = sym (ap nthReading (judged-refuses _ (check B (length xs) (tables B xs)) e))
 
-  slot-refuses : (s : ℕ) → slotRead B xs s ≡ refused w
-  unfolding clearNumber
-  slot-refuses s = else-refuses _ (check B (length xs) (tables B xs)) (when (badSlot s) 18) e
-
-  pub slot-refused : (s : ℕ) → record { verdict = refused w; value = record { present = false; partition = zeroPartition } } ≡ readingOf (slotRead B xs s)
-  unfolding beside
-  slot-refused s = sym (ap readingOf (slot-refuses s))
-
 module _ (B : ℕ) (xs : List ℕ) (e : checkAnswer B xs ≡ accepted tt) where
   pub count-given : {r : ℕ} → r ≡ length (presentSlots (tables B xs)) → accepted r ≡ countAnswer B xs
   count-given q = ap accepted q ∙ sym (judged-accepts _ _ e)
@@ -145,26 +129,31 @@ module _ (B : ℕ) (xs : List ℕ) (e : checkAnswer B xs ≡ accepted tt) where
   next-given after q z =
       sym (judged-accepts _ _ e ∙ ap accepted (next-some (tables B xs .front .array) 0 128 after (λ y. z (q ∙ y)) ∙ ap (λ (i : ℕ). i ∷ []) (sym q)))
 
-  pub clear-is : (s : ℕ) → clearNumber B (length xs) (tables B xs) s ≡ when (badSlot s) 18
-  unfolding clearNumber
-  clear-is s = else-skip (check B (length xs) (tables B xs)) _ (judged-zero tt (check B (length xs) (tables B xs)) 0 tt e)
+  pub slot-is : (s : ℕ) → slotCheck B (length xs) (tables B xs) s ≡ when (badSlot s) (plain 18)
+  unfolding slotCheck
+  slot-is s = sym (past {f = check B (length xs) (tables B xs)} refl (judged-zero tt (check B (length xs) (tables B xs)) tt e) refl)
 
-  pub slot-outside : (s : ℕ) {w : Why} → arrayPlaceOf s 128 ≡ refused w
-      → record { verdict = refused w; value = record { present = false; partition = zeroPartition } } ≡ readingOf (slotRead B xs s)
-  unfolding beside arrayPlaceOf judged
-  slot-outside s q =
-      let r = pick-refused (badSlot s) 18 (s - 1) q in
-      rw (clear-is s ∙ when-true (badSlot s) 18 (r .0), ← r .1)
+-- the tests of a call on one slot, and what it reads of the slot
+module _ (B : ℕ) (xs : List ℕ) (s : ℕ) {f : Why} (e : f ≡ slotCheck B (length xs) (tables B xs) s) where
+  pub slot-refused : {r : Refusal} → (f .number ≡ 0 → ⊥) → r ≡ refusalOf f
+      → record { verdict = refusedBy r; value = record { present = false; partition = zeroPartition } } ≡ readingOf (slotRead B xs s)
+  unfolding beside
+  slot-refused {r} d q =
+      let n : slotCheck B (length xs) (tables B xs) s .number ≡ 0 → ⊥ = λ z. d (number-of e ∙ z) in
+      let w : why r ≡ slotCheck B (length xs) (tables B xs) s = ap why q ∙ ap (λ (x : Why). why (refusalOf x)) e ∙ named-slot B (length xs) (tables B xs) s .name n in
+      ap (λ (x : Why). readingOf (refused x)) w ∙ sym (ap readingOf (judged-some _ (slotCheck B (length xs) (tables B xs) s) n))
 
-  pub slot-inside : (s : ℕ) {k : ℕ} → arrayPlaceOf s 128 ≡ accepted k → badSlot s ≡ false
-  unfolding arrayPlaceOf
-  slot-inside s q = pick-accepted (badSlot s) 18 (s - 1) q .0
+  pub slot-tested : f .number ≡ 0 → (roomCheck B (length xs) .number ≡ 0) × (badSlot s ≡ false)
+  unfolding check
+  slot-tested z =
+      let k = slot-passed B (length xs) (tables B xs) s (sym (number-of e) ∙ z) in
+      (else-first (roomCheck B (length xs)) _ (k .0), k .1)
 
-  pub slot-given : (s : ℕ) {k : ℕ} {t : Bool} {p : Partition} → arrayPlaceOf s 128 ≡ accepted k → t ≡ present (tables B xs .front .array) 0 (s - 1)
+  pub slot-given : {t : Bool} {p : Partition} → f .number ≡ 0 → t ≡ present (tables B xs .front .array) 0 (s - 1)
       → p ≡ entryAt (tables B xs .front .array) (entryPlace 0 (s - 1)) → record { verdict = accepted tt; value = record { present = t; partition = p } } ≡ readingOf (slotRead B xs s)
-  unfolding beside judged
-  slot-given s q f g =
-      rw (clear-is s ∙ when-none (badSlot s) 18 (slot-inside s q), entry-place (tables B xs .front .array) (s - 1), f, g)
+  unfolding beside
+  slot-given z g h =
+      rw (judged-none _ (slotCheck B (length xs) (tables B xs) s) (sym (number-of e) ∙ z), entry-place (tables B xs .front .array) (s - 1), g, h)
 
 -- slot k of the listing, or 0
 module _ (B : ℕ) (xs : List ℕ) (k : ℕ) where
@@ -193,18 +182,18 @@ module _ (B : ℕ) (xs : List ℕ) (k : ℕ) where
       (λ h. absurd (d (List·getD-eq-default (presentSlots (tables B xs)) 0 h)))
       (λ h. ap (take 1) (drop-cons (presentSlots (tables B xs)) k 0 h))
 
-  module _ (e : checkAnswer B xs ≡ accepted tt) {s : ℕ} (q : s ≡ getD (presentSlots (tables B xs)) k 0) where
-    pub nth-over : s ≡ 0 → record { verdict = accepted tt; value = record { found = false; slot = 0; partition = zeroPartition } } ≡ nthReading (nthAnswer B xs k)
-    unfolding beside firstUsed
-    nth-over z =
-        sym (ap nthReading (judged-accepts _ (check B (length xs) (tables B xs)) e) ∙ ap (λ (l : List ℕ). nthReading (accepted (map (listed (tables B xs)) l))) (nth-none (sym q ∙ z)))
+  pub nth-over : checkAnswer B xs ≡ accepted tt → {s : ℕ} → s ≡ getD (presentSlots (tables B xs)) k 0 → s ≡ 0
+      → record { verdict = accepted tt; value = record { found = false; slot = 0; partition = zeroPartition } } ≡ nthReading (nthAnswer B xs k)
+  unfolding beside firstUsed
+  nth-over e {s} q z =
+      sym (ap nthReading (judged-accepts _ (check B (length xs) (tables B xs)) e) ∙ ap (λ (l : List ℕ). nthReading (accepted (map (listed (tables B xs)) l))) (nth-none (sym q ∙ z)))
 
-    pub nth-given : {p : Partition} → (s ≡ 0 → ⊥) → p ≡ entryAt (tables B xs .front .array) (entryPlace 0 (s - 1))
-        → record { verdict = accepted tt; value = record { found = true; slot = s; partition = p } } ≡ nthReading (nthAnswer B xs k)
-    unfolding beside firstUsed
-    nth-given {p} d f =
-        let g : List ℕ → Beside Used = λ (l : List ℕ). nthReading (accepted (map (listed (tables B xs)) l)) in
-        sym
-        (ap nthReading (judged-accepts _ (check B (length xs) (tables B xs)) e)
-        ∙ ap g (nth-some (λ z. d (q ∙ z)) ∙ ap (λ (i : ℕ). i ∷ []) (sym q))
-        ∙ ap (λ (x : Partition). record { verdict = accepted tt; value = record { found = true; slot = s; partition = x } }) (sym f))
+  pub nth-given : checkAnswer B xs ≡ accepted tt → {s : ℕ} → s ≡ getD (presentSlots (tables B xs)) k 0 → {p : Partition} → (s ≡ 0 → ⊥) → p ≡ entryAt (tables B xs .front .array) (entryPlace 0 (s - 1))
+      → record { verdict = accepted tt; value = record { found = true; slot = s; partition = p } } ≡ nthReading (nthAnswer B xs k)
+  unfolding beside firstUsed
+  nth-given e {s} q {p} d f =
+      let g : List ℕ → Beside Used = λ (l : List ℕ). nthReading (accepted (map (listed (tables B xs)) l)) in
+      sym
+      (ap nthReading (judged-accepts _ (check B (length xs) (tables B xs)) e)
+      ∙ ap g (nth-some (λ z. d (q ∙ z)) ∙ ap (λ (i : ℕ). i ∷ []) (sym q))
+      ∙ ap (λ (x : Partition). record { verdict = accepted tt; value = record { found = true; slot = s; partition = x } }) (sym f))

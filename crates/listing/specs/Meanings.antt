@@ -8,7 +8,7 @@ use Rattle.units.specs.Answer.{Answer, accepted, andThen, Beside, beside}
 use Rattle.units.specs.Meanings.{verdictMeans, beside-one}
 use Rattle.partition.specs.declared.Partition.{Partition}
 use Rattle.partition.specs.Format.{zeroPartition}
-use Rattle.tables.specs.Listing.{Listed}
+use Rattle.listing.specs.Listing.{Listed}
 use Rattle.listing.specs.declared.UsedRead.{UsedRead}
 
 -- a used slot that is asked for: whether there is one, its number, and its record

@@ -2,40 +2,62 @@
 // passes the check is for the caller to know. No public calls.
 use crate::UsedRead;
 use partition::Partition;
+use rows::inner::Plan;
+use units::BytePlace;
+use units::Lba;
 use units::Slot;
 use units::Verdict;
 ghost use mathlib.Core.Path.{_≡_};
 ghost use mathlib.Core.Bool.{false};
-ghost use Prim.Native.Nat.{_-_};
+ghost use Prim.Native.Nat.{_+_, _*_, _-_, _≤_};
 ghost use lib.ListN.{length, getD};
+ghost use Rattle.units.proofs.Chains.{found};
 ghost use Rattle.partition.specs.Format.{entryAt, zeroPartition};
 ghost use Rattle.partition.specs.Array.{entryPlace, present, firstSlot};
+ghost use Rattle.rows.specs.Plans.{Made, planned};
 ghost use Rattle.tables.specs.Lens.{tables};
-ghost use Rattle.tables.specs.Check.{roomCheck};
-ghost use Rattle.tables.specs.Calls.{badSlot};
-ghost use Rattle.tables.specs.Listing.{presentSlots};
+ghost use Rattle.tables.specs.Check.{roomCheck, badSlot};
+ghost use Rattle.listing.specs.Listing.{presentSlots};
+ghost use Rattle.listing.specs.LentRow.{cardEntries};
+
+// Where the front array stands in an image, and in whatever begins like one.
+pub fn front_array(b: u64) -> BytePlace
+    requires { ⌜ b ≤ 4096 ⌝ }
+    ensures { λ r. ⌜ r .0 ≡ b + b ⌝ }
+{
+    units::inner::place(Lba(2), b)
+}
+
+// Where a slot's entry stands there.
+fn slot_place(b: u64, slot: Slot) -> BytePlace
+    requires { ⌜ (b ≤ 4096) × (badSlot (slot .0) ≡ false) ⌝ }
+    ensures { λ r. ⌜ r .0 ≡ b + b + 128 * (slot .0 - 1) ⌝ }
+{
+    let k = units::inner::array_place(slot);
+    partition::inner::entry_place(front_array(b), k as usize)
+}
 
 // How many slots are used.
 pub fn used_count(img: &[u8], b: u64) -> u32
-    requires { ⌜ roomCheck b (length (now img)) ≡ 0 ⌝ }
+    requires { ⌜ roomCheck b (length (now img)) .number ≡ 0 ⌝ }
     ensures { λ r. ⌜ r ≡ length (presentSlots (tables b (now (img .entry)))) ⌝ }
 {
-    let array = tables::inner::array_place(img.len(), b, false);
+    let array = front_array(b);
     partition::inner::count_present(img, array.0, 128)
 }
 
 // The first used slot after a slot; slot 0 where there is none.
 pub fn used_after(img: &[u8], b: u64, after: Slot) -> Slot
-    requires { ⌜ roomCheck b (length (now img)) ≡ 0 ⌝ }
+    requires { ⌜ roomCheck b (length (now img)) .number ≡ 0 ⌝ }
     ensures { λ r. ⌜ r .0 ≡ firstSlot (tables b (now (img .entry)) .front .array) 0 128 (after .0) ⌝ }
 {
-    let array = tables::inner::array_place(img.len(), b, false);
-    Slot(partition::inner::next_present(img, array.0, 128, after.0))
+    let array = front_array(b);
+    partition::inner::next_present(img, array.0, 128, after)
 }
 
 // Used slot k, counted from 0; slot 0 where k is not below the count.
 pub fn nth_slot(img: &[u8], b: u64, k: u32) -> Slot
-    requires { ⌜ roomCheck b (length (now img)) ≡ 0 ⌝ }
+    requires { ⌜ roomCheck b (length (now img)) .number ≡ 0 ⌝ }
     ensures { λ r. ⌜ r .0 ≡ getD (presentSlots (tables b (now (img .entry)))) k 0 ⌝ }
 {
     let mut after = Slot(0);
@@ -53,19 +75,19 @@ pub fn nth_slot(img: &[u8], b: u64, k: u32) -> Slot
 
 // Whether a slot's entry is present.
 pub fn slot_present(img: &[u8], b: u64, slot: Slot) -> bool
-    requires { ⌜ (roomCheck b (length (now img)) ≡ 0) × (badSlot (slot .0) ≡ false) ⌝ }
+    requires { ⌜ (roomCheck b (length (now img)) .number ≡ 0) × (badSlot (slot .0) ≡ false) ⌝ }
     ensures { λ r. ⌜ r ≡ present (tables b (now (img .entry)) .front .array) 0 (slot .0 - 1) ⌝ }
 {
-    let at = tables::inner::slot_place(img.len(), b, false, slot);
+    let at = slot_place(b, slot);
     partition::inner::is_present(img, at.0)
 }
 
 // A slot's record.
 pub fn slot_entry(img: &[u8], b: u64, slot: Slot) -> Partition
-    requires { ⌜ (roomCheck b (length (now img)) ≡ 0) × (badSlot (slot .0) ≡ false) ⌝ }
+    requires { ⌜ (roomCheck b (length (now img)) .number ≡ 0) × (badSlot (slot .0) ≡ false) ⌝ }
     ensures { λ r. ⌜ r ≡ entryAt (tables b (now (img .entry)) .front .array) (entryPlace 0 (slot .0 - 1)) ⌝ }
 {
-    let at = tables::inner::slot_place(img.len(), b, false, slot);
+    let at = slot_place(b, slot);
     partition::inner::entry_at(img, at.0)
 }
 
@@ -78,5 +100,15 @@ pub fn none_used(verdict: Verdict) -> UsedRead
         found: false,
         slot: Slot(0),
         partition: Partition::zero(),
+    }
+}
+
+// The plan of a card's listing into a lent row, by value: every test but that of the row's length. The card check's numbers.
+pub fn plan_of(img: &[u8], b: u64) -> Plan
+    ensures { λ r. ⌜ Made (now (img .entry)) r × (planned (now (img .entry)) r ≡ cardEntries b (now (img .entry))) ⌝ }
+{
+    match checking::check(img, b) {
+        Verdict::Refused(w) => Plan::refused(w),
+        Verdict::Accepted => Plan::listing(img, front_array(b), 128),
     }
 }

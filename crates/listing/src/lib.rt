@@ -1,18 +1,21 @@
-// The listing of a card by value: how many slots are used, the next used slot, what a slot holds, and the used slots by their order.
-// Here stand the public calls: each is the card check and then a leaf of `inner`. What each answer is, is in tables/specs/Listing.
+// The listing of a card: how many slots are used, the next used slot, what a slot holds, and the used slots by their order, by value or into a row of records that the caller lends.
+// Here stand the public calls: each is the card check and then a leaf of `inner`. What each answer is, is in specs/Listing.
 pub mod inner; // inner.rt: the same of an image that was checked, for callers that check once and ask many times
 
 use partition::NextPartition;
 use partition::Partition;
 use partition::PartitionCount;
 use partition::PartitionRead;
-use units::ArrayPlace;
+use rows::Entry;
 use units::Slot;
 use units::Verdict;
 ghost use mathlib.Core.Path.{_≡_};
+ghost use lib.ListN.{length};
 ghost use Rattle.partition.specs.Array.{readingOf};
 ghost use Rattle.partition.specs.Meanings.{countMeans, nextMeans, readMeans};
-ghost use Rattle.tables.specs.Listing.{countAnswer, nextAnswer, slotRead, nthAnswer};
+ghost use Rattle.rows.specs.Row.{rowOutcome, RowEnds};
+ghost use Rattle.listing.specs.LentRow.{listingRead};
+ghost use Rattle.listing.specs.Listing.{countAnswer, nextAnswer, slotRead, nthAnswer};
 ghost use Rattle.listing.specs.Meanings.{usedMeans, nthReading};
 
 // The verdict, whether there is such a used slot, the slot, and its record. Where there is none, and beside a refusal, stand slot 0 and the zero record.
@@ -49,20 +52,19 @@ pub fn next_used(img: &[u8], b: u64, after: Slot) -> NextPartition
     }
 }
 
-// What a slot holds: 18 after the check.
+// What a slot holds: 18 (bad slot) after the check.
 pub fn read_slot(img: &[u8], b: u64, slot: Slot) -> PartitionRead
     ensures { λ r. ⌜ readMeans r ≡ readingOf (slotRead b (now (img .entry)) (slot .0)) ⌝ }
 {
-    match checking::check(img, b) {
-        Verdict::Refused(w) => partition::inner::refused(w),
-        Verdict::Accepted => match slot.array_place(128) {
-            ArrayPlace::Refused(w) => partition::inner::refused(w),
-            ArrayPlace::At(_k) => PartitionRead {
-                verdict: Verdict::Accepted,
-                present: inner::slot_present(img, b, slot),
-                partition: inner::slot_entry(img, b, slot),
-            },
-        },
+    let t = crc32::inner::table();
+    let found = checking::inner::slot_check(&t, img, b, slot);
+    if found.number != 0 {
+        return partition::inner::refused(found.refusal());
+    }
+    PartitionRead {
+        verdict: Verdict::Accepted,
+        present: inner::slot_present(img, b, slot),
+        partition: inner::slot_entry(img, b, slot),
     }
 }
 
@@ -85,4 +87,12 @@ pub fn nth_used(img: &[u8], b: u64, k: u32) -> UsedRead
             }
         }
     }
+}
+
+// The used slots with their records, ascending, into the first places of the row; the rest of the row stays, and the count is returned: the card check's numbers, then 15.
+pub fn listing(img: &[u8], b: u64, row: &mut [Entry]) -> PartitionCount
+    ensures { λ r. ⌜ RowEnds (rowOutcome (listingRead b (now (img .entry)) (length (now (row .entry)))) (now (row .entry))) (countMeans r) (now (row .exit)) ⌝ }
+{
+    let p = inner::plan_of(img, b);
+    rows::inner::fill(img, p, row)
 }

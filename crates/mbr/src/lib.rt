@@ -1,4 +1,4 @@
-// The protective MBR by value: parsed from a block, written to 512 bytes, and stored in a lent image. Bytes 512 onward of a larger block 0 are nobody's here.
+// The protective MBR by value: parsed from a block, written to 512 bytes, and stored in a lent image. Bytes 512 onward of a larger block 0 are never read or written.
 // Here stand the public calls: each takes every image and every number. `inner` has the leaves for our own crates.
 pub mod inner;
 

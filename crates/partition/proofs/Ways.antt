@@ -8,8 +8,10 @@ use lib.Dec.{eqb, ltb, leb}
 use lib.ListN.{length, replicate}
 use lib.Seq.{sets}
 use borrow.Author.Tests.{eq-eqb, ne-eqb, lt-ltb, le-ltb, le-leb, lt-leb, eqb-true, eqb-false, leb-true, leb-false, ltb-false, not-false}
+use Rattle.units.proofs.Lists.{sets-all}
 use Rattle.units.specs.declared.BytePlace.{BytePlace}
-use Rattle.units.specs.Answer.{Why, Answer, accepted, refused, refuse, pick, andThen, beside, Outcome, gives}
+use Rattle.units.specs.declared.why.Why.{Why}
+use Rattle.units.specs.Answer.{Answer, accepted, refused, refuse, pick, andThen, beside, Outcome, gives}
 use Rattle.units.specs.Bytes.{part, allZero}
 use Rattle.units.specs.Places.{goodSize, inside, insideOrEmpty, placeOf, placeAfter, arrayPlaceOf}
 use Rattle.crc32.specs.Crc.{crc}
@@ -23,7 +25,7 @@ use Rattle.partition.specs.declared.Partition.{Partition}
 use Rattle.partition.specs.Format.{entryAt, entryBytes, named, zeroPartition, fitted}
 use Rattle.partition.specs.Array.{presentFrom, firstSlot, arrayFound, partitionFound, partitionRead, partitionCount, partitionAfter, readingOf}
 use Rattle.partition.specs.Held.{FitEntry}
-use Rattle.partition.proofs.Laws.{length-entry, fitted-same, entry-back, next-none, next-some}
+use Rattle.partition.proofs.Laws.{length-entry, fitted-same, entry-back, next-none, next-some, length-cleared}
 
 -- a range that is inside or empty, and is not empty
 pub inside-filled : (len at n : ℕ) → insideOrEmpty len at n ≡ true → (n ≡ 0 → ⊥) → at + n ≤ len
@@ -416,3 +418,10 @@ module _ (xs : List ℕ) (h : Header) (b : ℕ) where
       pub after-some : (s ≡ 0 → ⊥) → accepted (s ∷ []) ≡ partitionAfter xs h b after
       unfolding partitionAfter
       after-some z = rw (e, next-some xs (p .0) (h .«num_parts») after (λ q. z (f ∙ q)), f)
+
+-- the record's bytes, stored over an array of 128
+pub record-made : (p q : Partition) (z r : List ℕ) → length z ≡ 128 → length (p .name) ≡ 36 → q ≡ named p → r ≡ sets z 0 (entryBytes q) → (r ≡ entryBytes (named p)) × (length r ≡ 128)
+record-made p q z r lz ln e h =
+    let l : length (entryBytes (named p)) ≡ 128 = length-entry (named p) (length-cleared (p .name) ∙ ln) in
+    let x : r ≡ entryBytes (named p) = h ∙ ap (λ (y : Partition). sets z 0 (entryBytes y)) e ∙ sets-all z (entryBytes (named p)) (lz ∙ sym l) in
+    (x, ap length x ∙ l)

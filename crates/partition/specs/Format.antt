@@ -1,11 +1,12 @@
 -- A partition entry's 128 bytes (UEFI 2.10, 5.3.3): type GUID at 0, partition GUID 16, first block 32, last block 40, attributes 48, and the name at 56,
 -- 36 units of 16 bits ended by a zero unit. All numbers are little-endian. Assumes nothing.
 use Prim.Native.Nat.{ℕ, zero, suc, _+_, _-_}
+use mathlib.Core.Bool.{Bool}
 use mathlib.Core.List.{List, [], _∷_, _++_}
 use lib.ListN.{length, take, replicate}
 use lib.Dec.{eqb}
 use Rattle.units.specs.Answer.{pick}
-use Rattle.units.specs.Bytes.{num, bytes}
+use Rattle.units.specs.Bytes.{part, num, bytes, allZero}
 use Rattle.units.specs.Guids.{guidAt, guidBytes, nilGuid}
 use Rattle.partition.specs.declared.Partition.{Partition}
 
@@ -27,14 +28,24 @@ firstZero (u ∷ us) = pick (eqb u 0) 0 (suc (firstZero us))
 unfoldable pub cleared : List ℕ → List ℕ
 cleared us = take (firstZero us) us ++ replicate (length us - firstZero us) 0
 
+-- the blocks of the entry at a place, and whether its type is nil
+abbrev pub firstAt : List ℕ → ℕ → ℕ
+firstAt xs at = num xs (at + 32) 8
+
+abbrev pub lastAt : List ℕ → ℕ → ℕ
+lastAt xs at = num xs (at + 40) 8
+
+abbrev pub nilTypeAt : List ℕ → ℕ → Bool
+nilTypeAt xs at = allZero (part xs at 16)
+
 -- the record at a place, its name ended by its first zero unit
 abbrev pub entryAt : List ℕ → ℕ → Partition
 entryAt xs at =
     record {
       «part_type_guid» = guidAt xs at;
       «part_guid» = guidAt xs (at + 16);
-      «first_lba» = record { 0 = num xs (at + 32) 8 };
-      «last_lba» = record { 0 = num xs (at + 40) 8 };
+      «first_lba» = record { 0 = firstAt xs at };
+      «last_lba» = record { 0 = lastAt xs at };
       flags = num xs (at + 48) 8;
       name = cleared (unitsAt 36 xs (at + 56));
     }

@@ -19,9 +19,41 @@ ghost use lib.Seq.{sets};
 ghost use Rattle.units.specs.Bytes.{part, allZero};
 ghost use Rattle.units.specs.Places.{insideOrEmpty};
 ghost use Rattle.units.specs.Meanings.{placedMeans};
-ghost use Rattle.partition.specs.Format.{unitsAt, unitBytes, firstZero, cleared, entryAt, entryBytes, fitted, zeroPartition};
+ghost use Rattle.partition.specs.Format.{firstAt, lastAt, nilTypeAt, unitsAt, unitBytes, firstZero, cleared, entryAt, entryBytes, named, fitted, zeroPartition};
 ghost use Rattle.partition.specs.Device.{runPlace, devicePlace};
 ghost use Rattle.partition.specs.Array.{present, presentFrom, firstSlot, arrayFound, partitionFound};
+
+// Where the entry at array place k stands, in the array at a byte place.
+pub fn entry_place(array: BytePlace, k: usize) -> BytePlace
+    requires { ⌜ array .0 + 128 * k < 2 ^ 64 ⌝ }
+    ensures { λ r. ⌜ r .0 ≡ array .0 + 128 * k ⌝ }
+{
+    BytePlace(array.0 + 128 * k)
+}
+
+// Whether the entry at a place has the nil type.
+pub fn nil_type_at(s: &[u8], at: BytePlace) -> bool
+    requires { ⌜ at .0 + 128 ≤ length (now s) ⌝ }
+    ensures { λ r. ⌜ r ≡ nilTypeAt (now (s .entry)) (at .0) ⌝ }
+{
+    units::inner::all_zero(s, at.0, 16)
+}
+
+// The first block of the entry at a place.
+pub fn first_at(s: &[u8], at: BytePlace) -> Lba
+    requires { ⌜ at .0 + 128 ≤ length (now s) ⌝ }
+    ensures { λ r. ⌜ r .0 ≡ firstAt (now (s .entry)) (at .0) ⌝ }
+{
+    Lba(units::inner::u64_at(s, at.0 + 32))
+}
+
+// The last block of the entry at a place.
+pub fn last_at(s: &[u8], at: BytePlace) -> Lba
+    requires { ⌜ at .0 + 128 ≤ length (now s) ⌝ }
+    ensures { λ r. ⌜ r .0 ≡ lastAt (now (s .entry)) (at .0) ⌝ }
+{
+    Lba(units::inner::u64_at(s, at.0 + 40))
+}
 
 // The 36 units of a name, as they stand.
 pub fn units_at(s: &[u8], at: usize) -> [u16; 36]
@@ -114,6 +146,29 @@ pub fn put_entry(s: &mut [u8], at: usize, p: Partition)
     put_units(s, at + 56, name);
 }
 
+// The 128 bytes of a record, its name cleared.
+pub fn named_bytes(p: Partition) -> [u8; 128]
+    ensures { λ r. ⌜ (r ≡ entryBytes (named p)) × (length r ≡ 128) ⌝ }
+{
+    let part_type_guid = p.part_type_guid;
+    let part_guid = p.part_guid;
+    let first_lba = p.first_lba;
+    let last_lba = p.last_lba;
+    let raw = p.name;
+    let name = clear_name(raw);
+    let cleared = Partition {
+        part_type_guid,
+        part_guid,
+        first_lba,
+        last_lba,
+        flags: p.flags,
+        name,
+    };
+    let mut e = [0u8; 128];
+    put_entry(&mut e, 0, cleared);
+    e
+}
+
 // src, cut or filled with zeros to the length of out.
 pub fn fit(out: &mut [u8], src: &[u8])
     ensures { λ _. ⌜ now (out .exit) ≡ fitted (length (now (out .entry))) (now (src .entry)) ⌝ }
@@ -201,23 +256,23 @@ pub fn count_present(s: &[u8], at: usize, count: u32) -> u32
     n
 }
 
-// The first present slot after a slot, among the count entries from place at on; 0 where there is none.
-pub fn next_present(s: &[u8], at: usize, count: u32, after: u32) -> u32
+// The first present slot after a slot, among the count entries from place at on; slot 0 where there is none.
+pub fn next_present(s: &[u8], at: usize, count: u32, after: Slot) -> Slot
     requires { ⌜ insideOrEmpty (length (now s)) at (count * 128) ≡ true ⌝ }
-    ensures { λ r. ⌜ r ≡ firstSlot (now (s .entry)) at count after ⌝ }
+    ensures { λ r. ⌜ r .0 ≡ firstSlot (now (s .entry)) at count (after .0) ⌝ }
 {
-    let mut k = after;
+    let mut k = after.0;
     while k < count {
         if is_present(s, at + (k as usize) * 128) {
-            return units::inner::slot_at(k).0;
+            return units::inner::slot_at(k);
         }
         k += 1;
     }
-    0
+    Slot(0)
 }
 
 // Where the array that a header names stands, once its sum is right: 1, 3, 7, 2, 6.
-pub fn array_place(img: &[u8], h: Header, b: u64) -> Placed
+pub fn find_array(img: &[u8], h: Header, b: u64) -> Placed
     ensures { λ r. ⌜ placedMeans r ≡ arrayFound (now (img .entry)) h b ⌝ }
 {
     let start = h.part_start;
@@ -244,7 +299,7 @@ pub fn array_place(img: &[u8], h: Header, b: u64) -> Placed
 pub fn partition_place(img: &[u8], h: Header, b: u64, slot: Slot) -> Placed
     ensures { λ r. ⌜ placedMeans r ≡ partitionFound (now (img .entry)) h b (slot .0) ⌝ }
 {
-    match array_place(img, h, b) {
+    match find_array(img, h, b) {
         Placed::Refused(w) => Placed::Refused(w),
         Placed::At(at) => match slot.array_place(h.num_parts) {
             ArrayPlace::Refused(w) => Placed::Refused(w),

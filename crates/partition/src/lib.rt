@@ -213,7 +213,7 @@ pub fn read_partition(img: &[u8], h: Header, b: u64, slot: Slot) -> PartitionRea
 pub fn count_partitions(img: &[u8], h: Header, b: u64) -> PartitionCount
     ensures { λ r. ⌜ countMeans r ≡ partitionCount (now (img .entry)) h b ⌝ }
 {
-    match inner::array_place(img, h, b) {
+    match inner::find_array(img, h, b) {
         Placed::Refused(w) => PartitionCount::Refused(w),
         Placed::At(at) => {
             let a = at.0;
@@ -226,15 +226,15 @@ pub fn count_partitions(img: &[u8], h: Header, b: u64) -> PartitionCount
 pub fn next_partition(img: &[u8], h: Header, b: u64, after: Slot) -> NextPartition
     ensures { λ r. ⌜ nextMeans r ≡ partitionAfter (now (img .entry)) h b (after .0) ⌝ }
 {
-    match inner::array_place(img, h, b) {
+    match inner::find_array(img, h, b) {
         Placed::Refused(w) => NextPartition::Refused(w),
         Placed::At(at) => {
             let a = at.0;
-            let slot = inner::next_present(img, a, h.num_parts, after.0);
-            if slot == 0 {
+            let slot = inner::next_present(img, a, h.num_parts, after);
+            if slot.0 == 0 {
                 return NextPartition::NoMore;
             }
-            NextPartition::At(Slot(slot))
+            NextPartition::At(slot)
         }
     }
 }

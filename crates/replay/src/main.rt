@@ -1,16 +1,13 @@
 // Replays answers of the Rust that this library is a port of: a tape on standard input has calls, their arguments and what the Rust answered, and the proved
 // calls are made again and compared. README.md, beside the folder `src`, has the tape's format.
-mod answers; // answers.rt: from a kind to its call
-mod entries; // entries.rt: the calls of entries
-mod headers; // headers.rt: the calls of headers and of the builder
-mod kinds; // kinds.rt: the kinds of steps
-mod mbrs; // mbrs.rt: the calls of the MBR
 mod say; // say.rt: what is printed
-mod tape; // tape.rt: the tape
-mod told; // told.rt: answers as the tape has them
 
-use tape::Args;
-use told::Answer;
+use replay_calls::answers;
+use replay_calls::kinds;
+use replay_calls::tape;
+use replay_calls::tape::Args;
+use replay_calls::told;
+use replay_calls::told::Answer;
 ghost use Prim.Native.Nat.{_≤_};
 ghost use mathlib.Core.Path.{_≡_};
 ghost use lib.ListN.{length};
@@ -63,7 +60,7 @@ fn image(img: &mut [u8], mut s: State) -> State
 {
     let mut arg = [0; 4];
     if !tape::fill(&mut arg, 0, 4) {
-        return stop(s, b"the tape ends early");
+        return stop(s, b"no more of the tape could be read");
     }
     let len = units::inner::u32_at(&arg, 0) as usize;
     if 65536 < len {
@@ -81,7 +78,7 @@ fn store(img: &mut [u8], s: State) -> State
 {
     let mut arg = [0; 6];
     if !tape::fill(&mut arg, 0, 6) {
-        return stop(s, b"the tape ends early");
+        return stop(s, b"no more of the tape could be read");
     }
     let at = units::inner::u32_at(&arg, 0) as usize;
     let n = units::inner::u16_at(&arg, 4) as usize;
@@ -89,7 +86,7 @@ fn store(img: &mut [u8], s: State) -> State
         return stop(s, b"a store outside the image");
     }
     if !tape::fill(img, at, n) {
-        return stop(s, b"the tape ends early");
+        return stop(s, b"no more of the tape could be read");
     }
     s
 }
@@ -124,12 +121,12 @@ fn call(img: &mut [u8], counts: &mut Counts, s: State, kind: u8) -> State
     }
     let mut args: Args = [0; 256];
     if !tape::arguments(kind, &mut args) {
-        return stop(s, b"the tape ends early");
+        return stop(s, b"no more of the tape could be read");
     }
     let came = answers::answer(kind, img, s.len, &args);
     let mut want: Answer = [0; 128];
     if !tape::answer(kind, &mut want) {
-        return stop(s, b"the tape ends early");
+        return stop(s, b"no more of the tape could be read");
     }
     count(counts, kind);
     compared(s, kind, want, came)
@@ -141,7 +138,7 @@ fn step(img: &mut [u8], counts: &mut Counts, s: State) -> State
 {
     let mut kind = [0; 1];
     if !tape::fill(&mut kind, 0, 1) {
-        return stop(s, b"the tape ends early");
+        return stop(s, b"no more of the tape could be read");
     }
     match kind[0] {
         kinds::END => end(s),

@@ -1,7 +1,7 @@
 // What the program prints.
-use crate::kinds;
-use crate::told::Answer;
 use libc::STDOUT_FILENO;
+use replay_calls::kinds;
+use replay_calls::told::Answer;
 
 pub fn text(s: &[u8]) {
     io::write_all(STDOUT_FILENO, s);

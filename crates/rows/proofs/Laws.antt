@@ -14,7 +14,8 @@ use Rattle.units.specs.declared.Slot.{Slot}
 use Rattle.units.specs.declared.Refusal.{Refusal}
 use Rattle.units.specs.declared.Refusal.the-variants as refusal
 use Rattle.units.specs.declared.Verdict.the-variants as verdict
-use Rattle.units.specs.Answer.{Why, Answer, accepted, refused, refuse, pick, andThen}
+use Rattle.units.specs.declared.why.Why.{Why}
+use Rattle.units.specs.Answer.{Answer, accepted, refused, refuse, pick, andThen}
 use Rattle.units.specs.Places.{insideOrEmpty}
 use Rattle.units.specs.Refusals.{refusedBy}
 use Rattle.units.specs.Meanings.{verdictMeans}

@@ -1,5 +1,6 @@
 // Leaves for our own crates: each `requires` is what its caller has tested. No public calls.
-// A reading is first planned by value, which makes every test but that of the row's length; then `fill` fills the row.
+// A reading is first planned by value, which makes every test but that of the row's length.
+// Then `fill` fills the row, or `fill_bytes` lent bytes, 136 a row, for callers to whom a row of records cannot be lent.
 use crate::Entry;
 use header::Header;
 use partition::PartitionCount;
@@ -10,13 +11,15 @@ use units::Slot;
 use units::Verdict;
 ghost use mathlib.Core.Path.{_≡_};
 ghost use mathlib.Core.Bool.{true};
-ghost use Prim.Native.Nat.{_+_, _*_, _-_, _^_, _<_};
+ghost use Prim.Native.Nat.{_+_, _*_, _-_, _/_, _^_, _≤_, _<_};
 ghost use lib.ListN.{length};
-ghost use Rattle.units.specs.Answer.{accepted};
+ghost use lib.Seq.{sets};
+ghost use Rattle.units.specs.Answer.{accepted, Ends};
 ghost use Rattle.units.specs.Places.{insideOrEmpty};
 ghost use Rattle.partition.specs.Array.{entryPlace};
 ghost use Rattle.partition.specs.Meanings.{countMeans};
 ghost use Rattle.rows.specs.Row.{presentEntries, rowOutcome, RowEnds};
+ghost use Rattle.rows.specs.RowBytes.{rowBytes, bytesOutcome};
 ghost use Rattle.rows.specs.Plans.{Lies, InArray, Made, entryBy, slotAfter, planned, noPlan, planWithin, roomed, countBy, entriesFound};
 
 // Where an array stands and how many entries it has, how many of them are present, and whether the reading accepts. A refusal has no entries.
@@ -88,7 +91,7 @@ impl Plan {
         requires { ⌜ InArray self s × (self .place .0 + self .entries * 128 < 2 ^ 64) ⌝ }
         ensures { λ r. ⌜ r .0 ≡ entryPlace (self .place .0) (s .0 - 1) ⌝ }
     {
-        let k = s.0 - 1;
+        let k = units::inner::array_place(s);
         BytePlace(self.place.0 + (k as usize) * 128)
     }
 }
@@ -99,7 +102,7 @@ pub fn next_slot(img: &[u8], p: Plan, after: Slot) -> Slot
     ensures { λ r. ⌜ r ≡ slotAfter (now (img .entry)) p after ⌝ }
 {
     let at = p.place.0;
-    Slot(partition::inner::next_present(img, at, p.entries, after.0))
+    partition::inner::next_present(img, at, p.entries, after)
 }
 
 // The entry in a slot of the array, by value.
@@ -117,7 +120,7 @@ pub fn entry_in(img: &[u8], p: Plan, s: Slot) -> Entry
 pub fn plan_for(img: &[u8], h: Header, b: u64) -> Plan
     ensures { λ r. ⌜ Made (now (img .entry)) r × (planned (now (img .entry)) r ≡ entriesFound (now (img .entry)) h b) ⌝ }
 {
-    match partition::inner::array_place(img, h, b) {
+    match partition::inner::find_array(img, h, b) {
         Placed::Refused(w) => Plan::refused(w),
         Placed::At(at) => Plan::listing(img, at, h.num_parts),
     }
@@ -137,6 +140,36 @@ pub fn fill(img: &[u8], p: Plan, row: &mut [Entry]) -> PartitionCount
         at = next_slot(img, q, at);
         row[i] = entry_in(img, q, at);
         i = i + 1;
+    }
+    q.answer()
+}
+
+// One row in bytes, stored at a place: the slot in 8, least first, and then the record's 128.
+fn put_row(out: &mut [u8], at: BytePlace, e: Entry)
+    requires { ⌜ at .0 + 136 ≤ length (now out) ⌝ }
+    ensures { λ _. ⌜ now (out .exit) ≡ sets (now (out .entry)) (at .0) (rowBytes e) ⌝ }
+{
+    let a = at.0;
+    let slot = e.slot;
+    let record = e.partition;
+    units::inner::put_num(out, a, 8, slot.0 as u64);
+    partition::inner::put_entry(out, a + 8, record);
+}
+
+// Carries a plan out: the planned entries from the first lent byte on, or 15 if there are fewer whole rows; a refusal changes no byte.
+pub fn fill_bytes(img: &[u8], p: Plan, out: &mut [u8]) -> PartitionCount
+    requires { ⌜ Made (now img) p ⌝ }
+    ensures { λ r. ⌜ Ends (bytesOutcome (roomed (length (now (out .entry)) / 136) (planned (now (img .entry)) p)) (now (out .entry))) (countMeans r) (now (out .exit)) ⌝ }
+{
+    let q = p.within(out.len() / 136);
+    let count = q.places();
+    let mut i = 0;
+    let mut at = Slot(0);
+    while i < count {
+        at = next_slot(img, q, at);
+        let e = entry_in(img, q, at);
+        put_row(out, BytePlace(136 * i), e);
+        i += 1;
     }
     q.answer()
 }

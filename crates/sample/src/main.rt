@@ -1,7 +1,6 @@
 // Writes a sample card of 128 blocks of 512 bytes to standard output: laid, with a map, its roads and notes in slots 1 to 3.
 // The file `stdout` beside the folder `src` was made by tests/example/make_card.py, which shares no code with this library.
-use libc::STDERR_FILENO;
-use libc::STDOUT_FILENO;
+// Output that cannot be written is said on standard error.
 use partition::Partition;
 use partition::PartitionCount;
 use units::Guid;
@@ -80,17 +79,31 @@ fn used(img: &[u8]) -> u32 {
     }
 }
 
-// Writes the card if it holds its three slots.
-fn write(img: &[u8]) {
+// Writes the card if it holds its three slots. `ok` says whether all that was printed was written.
+fn write(img: &[u8], ok: &mut bool) {
     if used(img) == 3 {
-        io::write_all(STDOUT_FILENO, img);
+        console::text(img, ok);
     } else {
-        io::write_all(STDERR_FILENO, b"sample: a call was refused\n");
+        console::complain(b"sample: a call was refused\n");
     }
 }
 
-fn main() {
+fn run(ok: &mut bool) {
     let mut img = [0u8; 65536];
     fill(&mut img);
-    write(&img);
+    write(&img, ok);
+}
+
+// A main function in Rattle returns nothing, so the exit status is always 0 and the usage line says so.
+fn main() {
+    let mut ok = true;
+    if console::no_arguments(
+        b"usage: sample > IMAGE (65,536 bytes; the exit status is always 0, so read what is printed on standard error)\n",
+        &mut ok,
+    ) {
+        run(&mut ok);
+    }
+    if !ok {
+        console::complain(b"sample: cannot write the output\n");
+    }
 }

@@ -7,7 +7,7 @@ ghost use Rattle.crc32.specs.Rows.{Rows};
 ghost use Rattle.slot_sum.specs.SlotSum.{sumAfter};
 ghost use Rattle.slot_sum.specs.Powers.{Powers};
 
-// The register 0x80000000 after 1, 2, 4 .. bytes of zero: a register of such a form carries any other one over as many bytes.
+// POWERS[i] is x^(8·2^i) mod P: multiplying by it feeds 2^i zero bytes.
 const POWERS: [u32; 20] = [
     0x00800000,
     0x00008000,

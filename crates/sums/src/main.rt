@@ -2,56 +2,57 @@
 // anyone can compare what the proved code computes with what others have published.
 //
 // Each line has a sum, in eight hexadecimal digits, and says of what it is the sum. README.md,
-// beside the folder `src`, says where each vector comes from.
+// beside the folder `src`, says where each vector comes from. Input that cannot be read and output
+// that cannot be written are said on standard error: of such an input there is no sum. Of every
+// function that prints, `ok` says whether all that was printed so far was written.
 ghost use Prim.Native.Nat.{ℕ, _%_, _<_, _≤_};
 ghost use mathlib.Core.Path.{_≡_};
 ghost use lib.ListN.{length, getD, take};
 ghost use Rattle.crc32.specs.Crc.{crc};
-use libc::STDIN_FILENO;
-use libc::STDOUT_FILENO;
+use console::Input;
 
 // Starts a line: the sum, and a space.
-fn print_sum(sum: u32) {
-    io::print_hex(STDOUT_FILENO, sum as u64, 8);
-    io::write_all(STDOUT_FILENO, b" ");
+fn print_sum(sum: u32, ok: &mut bool) {
+    console::hex(sum as u64, 8, ok);
+    console::text(b" ", ok);
 }
 
 // A line for bytes that are described by `what`.
-fn show(bytes: &[u8], what: &[u8]) {
-    print_sum(crc32::crc32(bytes));
-    io::write_all(STDOUT_FILENO, what);
-    io::write_all(STDOUT_FILENO, b"\n");
+fn show(bytes: &[u8], what: &[u8], ok: &mut bool) {
+    print_sum(crc32::crc32(bytes), ok);
+    console::text(what, ok);
+    console::text(b"\n", ok);
 }
 
 // A line for bytes that can be printed as they are.
-fn show_quoted(text: &[u8]) {
-    print_sum(crc32::crc32(text));
-    io::write_all(STDOUT_FILENO, b"\"");
-    io::write_all(STDOUT_FILENO, text);
-    io::write_all(STDOUT_FILENO, b"\"\n");
+fn show_quoted(text: &[u8], ok: &mut bool) {
+    print_sum(crc32::crc32(text), ok);
+    console::text(b"\"", ok);
+    console::text(text, ok);
+    console::text(b"\"\n", ok);
 }
 
 // A space and one byte in two hexadecimal digits.
-fn print_byte(byte: u8) {
-    io::write_all(STDOUT_FILENO, b" ");
-    io::print_hex(STDOUT_FILENO, byte as u64, 2);
+fn print_byte(byte: u8, ok: &mut bool) {
+    console::text(b" ", ok);
+    console::hex(byte as u64, 2, ok);
 }
 
 // Bytes in hexadecimal, each after a space.
-fn print_bytes(bytes: &[u8]) {
+fn print_bytes(bytes: &[u8], ok: &mut bool) {
     let mut i = 0;
     while i < bytes.len() {
-        print_byte(bytes[i]);
+        print_byte(bytes[i], ok);
         i += 1;
     }
 }
 
 // A line for a few bytes that are printed in hexadecimal.
-fn show_bytes(bytes: &[u8]) {
-    print_sum(crc32::crc32(bytes));
-    io::write_all(STDOUT_FILENO, b"bytes");
-    print_bytes(bytes);
-    io::write_all(STDOUT_FILENO, b"\n");
+fn show_bytes(bytes: &[u8], ok: &mut bool) {
+    print_sum(crc32::crc32(bytes), ok);
+    console::text(b"bytes", ok);
+    print_bytes(bytes, ok);
+    console::text(b"\n", ok);
 }
 
 // Makes all lent bytes the same.
@@ -87,129 +88,166 @@ fn sum_of_first(bytes: &[u8], n: usize) -> u32
 }
 
 // A line for n times the same byte.
-fn show_run(byte: u8, n: usize)
+fn show_run(byte: u8, n: usize, ok: &mut bool)
     requires { ⌜ n ≤ 65536 ⌝ }
 {
     let mut space = io::large_buffer();
     fill_same(&mut space, byte);
-    print_sum(sum_of_first(&space, n));
-    io::print_decimal(STDOUT_FILENO, n as u64);
-    io::write_all(STDOUT_FILENO, b" bytes");
-    print_byte(byte);
-    io::write_all(STDOUT_FILENO, b"\n");
+    print_sum(sum_of_first(&space, n), ok);
+    console::decimal(n as u64, ok);
+    console::text(b" bytes", ok);
+    print_byte(byte, ok);
+    console::text(b"\n", ok);
 }
 
 // A line for the first n bytes of those that count up from 0.
-fn show_rising(n: usize, what: &[u8])
+fn show_rising(n: usize, what: &[u8], ok: &mut bool)
     requires { ⌜ n ≤ 65536 ⌝ }
 {
     let mut space = io::large_buffer();
     fill_rising(&mut space);
-    print_sum(sum_of_first(&space, n));
-    io::write_all(STDOUT_FILENO, what);
-    io::write_all(STDOUT_FILENO, b"\n");
+    print_sum(sum_of_first(&space, n), ok);
+    console::text(what, ok);
+    console::text(b"\n", ok);
 }
 
-// Whether a byte of standard input is left.
-fn is_more() -> bool {
-    let mut one = [0u8; 1];
-    io::read_full(STDIN_FILENO, &mut one) != 0
+// One byte more than the longest input of which there is a sum.
+fn space() -> [u8; 65537] {
+    [0; 65537]
 }
 
-// A line for all of standard input, if the buffer can hold it. Only a full buffer is followed by
-// a test for more, so that a person who types the input has to end it only once.
-fn show_input() {
-    let mut space = io::large_buffer();
-    let n = io::read_full(STDIN_FILENO, &mut space);
-    if n == 65536 && is_more() {
-        io::write_all(STDOUT_FILENO, b"too long\n");
-        return;
+// The line for the bytes of standard input.
+fn show_sum(bytes: &[u8], ok: &mut bool) {
+    print_sum(crc32::crc32(bytes), ok);
+    console::decimal(bytes.len() as u64, ok);
+    console::text(b" bytes of standard input\n", ok);
+}
+
+// A line for all of standard input, if the buffer can hold it. It is read until it ends, which a
+// person who types it has to say only once.
+fn show_input(ok: &mut bool) {
+    let mut buf = space();
+    match console::read_input(&mut buf) {
+        Input::Failed => console::complain(b"sums: cannot read the input\n"),
+        Input::Bytes(n) => {
+            if 65536 < n {
+                console::text(b"too long\n", ok);
+            } else {
+                show_sum(&buf[..n], ok);
+            }
+        }
     }
-    print_sum(crc32::crc32(&space[..n]));
-    io::print_decimal(STDOUT_FILENO, n as u64);
-    io::write_all(STDOUT_FILENO, b" bytes of standard input\n");
 }
 
 // Texts of up to 14 bytes, from short to long; "123456789" is the catalogue's check value.
-fn show_short_texts() {
-    show(b"", b"nothing");
-    show_quoted(b"a");
-    show_quoted(b"ab");
-    show_quoted(b"abc");
-    show_quoted(b"abcd");
-    show_quoted(b"hello");
-    show_quoted(b"MySQL");
-    show_quoted(b"mysql");
-    show_quoted(b"123456789");
-    show_quoted(b"helloworld");
-    show_quoted(b"hello world");
-    show_quoted(b"Hello, World!");
-    show_quoted(b"message digest");
+fn show_short_texts(ok: &mut bool) {
+    show(b"", b"nothing", ok);
+    show_quoted(b"a", ok);
+    show_quoted(b"ab", ok);
+    show_quoted(b"abc", ok);
+    show_quoted(b"abcd", ok);
+    show_quoted(b"hello", ok);
+    show_quoted(b"MySQL", ok);
+    show_quoted(b"mysql", ok);
+    show_quoted(b"123456789", ok);
+    show_quoted(b"helloworld", ok);
+    show_quoted(b"hello world", ok);
+    show_quoted(b"Hello, World!", ok);
+    show_quoted(b"message digest", ok);
 }
 
 // Texts of 26 to 80 bytes, from short to long.
-fn show_long_texts() {
-    show_quoted(b"abcdefghijklmnopqrstuvwxyz");
-    show_quoted(b"Test vector from febooti.com");
-    show_quoted(b"C is as portable as Stonehedge!!");
-    show_quoted(b"various CRC algorithms input data");
-    show_quoted(b"The quick brown fox jumps over the lazy dog");
-    show_quoted(b"The quick brown fox jumped over the lazy dog.");
-    show_quoted(b"ABCDEFGHIJKLMNOPQRSTUVWXYZabcdefghijklmnopqrstuvwxyz0123456789");
+fn show_long_texts(ok: &mut bool) {
+    show_quoted(b"abcdefghijklmnopqrstuvwxyz", ok);
+    show_quoted(b"Test vector from febooti.com", ok);
+    show_quoted(b"C is as portable as Stonehedge!!", ok);
+    show_quoted(b"various CRC algorithms input data", ok);
+    show_quoted(b"The quick brown fox jumps over the lazy dog", ok);
+    show_quoted(b"The quick brown fox jumped over the lazy dog.", ok);
+    show_quoted(
+        b"ABCDEFGHIJKLMNOPQRSTUVWXYZabcdefghijklmnopqrstuvwxyz0123456789",
+        ok,
+    );
     show_quoted(
         b"12345678901234567890123456789012345678901234567890123456789012345678901234567890",
+        ok,
     );
 }
 
 // Bytes that are no text: the least and the largest byte, and the vectors of AUTOSAR.
-fn show_few_bytes() {
-    show_bytes(b"\x00");
-    show_bytes(b"\xff");
-    show_bytes(b"\xf2\x01\x83");
-    show_bytes(b"\x92\x6b\x55");
-    show_bytes(b"\x00\x00\x00\x00");
-    show_bytes(b"\xff\xff\xff\xff");
-    show_bytes(b"\x0f\xaa\x00\x55");
-    show_bytes(b"\x00\xff\x55\x11");
-    show_bytes(b"\x33\x22\x55\xaa\xbb\xcc\xdd\xee\xff");
+fn show_few_bytes(ok: &mut bool) {
+    show_bytes(b"\x00", ok);
+    show_bytes(b"\xff", ok);
+    show_bytes(b"\xf2\x01\x83", ok);
+    show_bytes(b"\x92\x6b\x55", ok);
+    show_bytes(b"\x00\x00\x00\x00", ok);
+    show_bytes(b"\xff\xff\xff\xff", ok);
+    show_bytes(b"\x0f\xaa\x00\x55", ok);
+    show_bytes(b"\x00\xff\x55\x11", ok);
+    show_bytes(b"\x33\x22\x55\xaa\xbb\xcc\xdd\xee\xff", ok);
 }
 
 // The three chunks of a PNG file of one red pixel: a chunk's sum covers its type and its data.
-fn show_png_chunks() {
-    show(b"IEND", b"PNG chunk IEND");
+fn show_png_chunks(ok: &mut bool) {
+    show(b"IEND", b"PNG chunk IEND", ok);
     show(
         b"IDAT\x08\xd7\x63\xf8\xcf\xc0\x00\x00\x03\x01\x01\x00",
         b"PNG chunk IDAT of one red pixel",
+        ok,
     );
     show(
         b"IHDR\x00\x00\x00\x01\x00\x00\x00\x01\x08\x02\x00\x00\x00",
         b"PNG chunk IHDR of one red pixel",
+        ok,
     );
 }
 
 // Runs and sequences, up to the longest that the buffer holds. 512 bytes are a block of most
 // disks, and 16,384 bytes of zero are the array of 128 unused entries of a partition table.
-fn show_sequences() {
-    show_run(0, 32);
-    show_run(255, 32);
-    show_rising(32, b"32 bytes 00 to 1f");
+fn show_sequences(ok: &mut bool) {
+    show_run(0, 32, ok);
+    show_run(255, 32, ok);
+    show_rising(32, b"32 bytes 00 to 1f", ok);
     show(
         b"\x1f\x1e\x1d\x1c\x1b\x1a\x19\x18\x17\x16\x15\x14\x13\x12\x11\x10\x0f\x0e\x0d\x0c\x0b\x0a\x09\x08\x07\x06\x05\x04\x03\x02\x01\x00",
         b"32 bytes 1f to 00",
+        ok,
     );
-    show_rising(256, b"256 bytes 00 to ff");
-    show_run(0, 512);
-    show_run(0, 4096);
-    show_run(0, 16384);
-    show_run(0, 65536);
-    show_run(255, 65536);
+    show_rising(256, b"256 bytes 00 to ff", ok);
+    show_run(0, 512, ok);
+    show_run(0, 4096, ok);
+    show_run(0, 16384, ok);
+    show_run(0, 65536, ok);
+    show_run(255, 65536, ok);
 }
 
+// All vectors.
+fn show_vectors(ok: &mut bool) {
+    show_short_texts(ok);
+    show_long_texts(ok);
+    show_few_bytes(ok);
+    show_png_chunks(ok);
+    show_sequences(ok);
+}
+
+// The vectors, and then the input, unless the vectors could not be written.
+fn run(ok: &mut bool) {
+    show_vectors(ok);
+    if *ok {
+        show_input(ok);
+    }
+}
+
+// A main function in Rattle returns nothing, so the exit status is always 0 and the usage line says so.
 fn main() {
-    show_short_texts();
-    show_long_texts();
-    show_few_bytes();
-    show_png_chunks();
-    show_sequences();
-    show_input();
+    let mut ok = true;
+    if console::no_arguments(
+        b"usage: sums < BYTES (65,536 at most; the exit status is always 0, so read what is printed)\n",
+        &mut ok,
+    ) {
+        run(&mut ok);
+    }
+    if !ok {
+        console::complain(b"sums: cannot write the output\n");
+    }
 }

@@ -4,7 +4,7 @@ use mathlib.Core.Path.{_≡_, refl, sym, ap, _∙_, subst}
 use mathlib.Core.Logic.{inl, inr}
 use mathlib.Core.Bool.{Bool, true, false, not, _&&_}
 use mathlib.Core.List.{List, [], _∷_}
-use Prim.Native.Nat.{ℕ, zero, suc, _+_, _*_, _/_, _%_, _≤_, _<_}
+use Prim.Native.Nat.{ℕ, zero, suc, _+_, _*_, _≤_, _<_}
 use native.Mathlib.Omega.{arith}
 use borrow.Author.Tests.{eqb-true, eqb-false, ne-eqb, leb-true, le-leb, not-true}
 use lib.Dec.{eqb, leb}
@@ -15,7 +15,7 @@ use Rattle.units.specs.Bytes.{part, allZero}
 use Rattle.units.proofs.Lists.{part-out, part-same, length-part, getD-part}
 use Rattle.tables.specs.Checks.{all}
 use Rattle.tables.specs.Places.{firstUsable, lastUsable}
-use Rattle.tables.specs.Entries.{zeros, entry, setEntry, used, firstOf, lastOf, usable, okEntry, clash, entriesOk}
+use Rattle.tables.specs.Entries.{zeros, entry, setEntry, used, firstOf, lastOf, usable, okEntry, allOk, overlaps, entriesOk}
 use Rattle.tables.proofs.Orders.{split, by-pick, by-test, all-at, all-of, both, and-left, and-right}
 
 pub length-zeros : (n : ℕ) → length (zeros n) ≡ n
@@ -59,20 +59,6 @@ entry-zeros k h =
     ∙ getD-zeros 16384 (128 * k + i) (omega arith)
     ∙ sym (getD-zeros 128 i (omega arith)))
 
--- two arrays with the same 128 entries are the same
-pub entries-ext : (arr brr : List ℕ) → length arr ≡ 16384 → length brr ≡ 16384 → ((k : ℕ) → k < 128 → entry arr k ≡ entry brr k) → arr ≡ brr
-unfolding entry
-entries-ext arr brr la lb h =
-    ext-getD 0 arr brr (la ∙ sym lb)
-    (λ i b.
-    let k : ℕ = i / 128 in
-    let e : i ≡ 128 * (i / 128) + i % 128 = omega arith in
-    ap (λ (j : ℕ). getD arr j 0) e
-    ∙ sym (getD-part arr (128 * (i / 128)) 128 (i % 128) (omega arith))
-    ∙ ap (λ (x : List ℕ). getD x (i % 128) 0) (h (i / 128) (omega arith))
-    ∙ getD-part brr (128 * (i / 128)) 128 (i % 128) (omega arith)
-    ∙ ap (λ (j : ℕ). getD brr j 0) (sym e))
-
 and-swap : (a b c d : Bool) → a && (b && (c && d)) ≡ b && (a && (d && c))
 and-swap true true true true = refl
 and-swap true true true false = refl
@@ -82,9 +68,9 @@ and-swap true false c d = refl
 and-swap false true c d = refl
 and-swap false false c d = refl
 
-pub clash-comm : (e f : List ℕ) → clash e f ≡ clash f e
-unfolding clash
-clash-comm e f = and-swap (used e) (used f) (leb (firstOf e) (lastOf f)) (leb (firstOf f) (lastOf e))
+pub overlaps-comm : (e f : List ℕ) → overlaps e f ≡ overlaps f e
+unfolding overlaps
+overlaps-comm e f = and-swap (used e) (used f) (leb (firstOf e) (lastOf f)) (leb (firstOf f) (lastOf e))
 
 -- what `usable` says in numbers
 pub record Inside (B n : ℕ) (e : List ℕ) : Type 0 where
@@ -137,13 +123,13 @@ pub unused-zeros : used (zeros 128) ≡ false
 unfolding used allZero zeros
 unused-zeros = refl
 
-pub clash-zeros : (e : List ℕ) → clash (zeros 128) e ≡ false
-unfolding clash
-clash-zeros e = ap (λ (b : Bool). b && (used e && (leb (firstOf (zeros 128)) (lastOf e) && leb (firstOf e) (lastOf (zeros 128))))) unused-zeros
+pub overlaps-zeros : (e : List ℕ) → overlaps (zeros 128) e ≡ false
+unfolding overlaps
+overlaps-zeros e = ap (λ (b : Bool). b && (used e && (leb (firstOf (zeros 128)) (lastOf e) && leb (firstOf e) (lastOf (zeros 128))))) unused-zeros
 
 pub record Entries (B n : ℕ) (arr : List ℕ) : Type 0 where
   pub each : (k : ℕ) → k < 128 → okEntry B n (entry arr k) ≡ true
-  pub apart : (j k : ℕ) → j < 128 → k < 128 → (j ≡ k → ⊥) → clash (entry arr j) (entry arr k) ≡ false
+  pub apart : (j k : ℕ) → j < 128 → k < 128 → (j ≡ k → ⊥) → overlaps (entry arr j) (entry arr k) ≡ false
 
 pub entries-true : (B n : ℕ) (arr : List ℕ) → entriesOk B n arr ≡ true → Entries B n arr
 unfolding entriesOk
@@ -152,10 +138,10 @@ entries-true B n arr h =
       each = all-at 128 (λ (k : ℕ). okEntry B n (entry arr k)) (and-left _ _ h);
       apart = λ j k p q d.
           not-true _
-          (subst (λ (t : Bool). pick t true (not (clash (entry arr j) (entry arr k))) ≡ true) (ne-eqb j k d)
-          (all-at 128 (λ (k : ℕ). pick (eqb j k) true (not (clash (entry arr j) (entry arr k))))
-          (all-at 128 (λ (j : ℕ). all 128 (λ (k : ℕ). pick (eqb j k) true (not (clash (entry arr j) (entry arr k)))))
-          (and-right (all 128 (λ (k : ℕ). okEntry B n (entry arr k))) _ h) j p) k q));
+          (subst (λ (t : Bool). pick t true (not (overlaps (entry arr j) (entry arr k))) ≡ true) (ne-eqb j k d)
+          (all-at 128 (λ (k : ℕ). pick (eqb j k) true (not (overlaps (entry arr j) (entry arr k))))
+          (all-at 128 (λ (j : ℕ). all 128 (λ (k : ℕ). pick (eqb j k) true (not (overlaps (entry arr j) (entry arr k)))))
+          (and-right (allOk B n arr) _ h) j p) k q));
     }
 
 pub entries-of : (B n : ℕ) (arr : List ℕ) → Entries B n arr → entriesOk B n arr ≡ true
@@ -169,22 +155,22 @@ pub entries-zeros : (B n : ℕ) → Entries B n (zeros 16384)
 entries-zeros B n =
     record {
       each = λ k p. rw (entry-zeros k p) (ok-zeros B n);
-      apart = λ j k p q d. rw (entry-zeros j p) (clash-zeros (entry (zeros 16384) k));
+      apart = λ j k p q d. rw (entry-zeros j p) (overlaps-zeros (entry (zeros 16384) k));
     }
 
 -- one entry replaced by one that passes and meets no other
 pub entries-set : (B n : ℕ) (arr : List ℕ) (k : ℕ) (e : List ℕ) → length arr ≡ 16384 → k < 128 → length e ≡ 128 → Entries B n arr
-    → okEntry B n e ≡ true → ((j : ℕ) → j < 128 → (j ≡ k → ⊥) → clash e (entry arr j) ≡ false) → Entries B n (setEntry arr k e)
+    → okEntry B n e ≡ true → ((j : ℕ) → j < 128 → (j ≡ k → ⊥) → overlaps e (entry arr j) ≡ false) → Entries B n (setEntry arr k e)
 entries-set B n arr k e long low size g ok free =
     record {
       each = λ j p. rw (entry-set arr k e long low size j p) (by-pick (λ (x : List ℕ). okEntry B n x ≡ true) (eqb j k) _ _ (λ _. ok) (λ _. g .each j p));
       apart = λ i j p q d.
           rw (entry-set arr k e long low size i p, entry-set arr k e long low size j q)
-          (by-pick (λ (x : List ℕ). clash x (pick (eqb j k) e (entry arr j)) ≡ false) (eqb i k) _ _
-          (λ a. by-pick (λ (y : List ℕ). clash e y ≡ false) (eqb j k) _ _
+          (by-pick (λ (x : List ℕ). overlaps x (pick (eqb j k) e (entry arr j)) ≡ false) (eqb i k) _ _
+          (λ a. by-pick (λ (y : List ℕ). overlaps e y ≡ false) (eqb j k) _ _
           (λ b. absurd (d (eqb-true i k a ∙ sym (eqb-true j k b))))
           (λ b. free j q (eqb-false j k b)))
-          (λ a. by-pick (λ (y : List ℕ). clash (entry arr i) y ≡ false) (eqb j k) _ _
-          (λ b. clash-comm (entry arr i) e ∙ free i p (eqb-false i k a))
+          (λ a. by-pick (λ (y : List ℕ). overlaps (entry arr i) y ≡ false) (eqb j k) _ _
+          (λ b. overlaps-comm (entry arr i) e ∙ free i p (eqb-false i k a))
           (λ b. g .apart i j p q d)));
     }

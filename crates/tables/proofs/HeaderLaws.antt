@@ -1,82 +1,230 @@
--- The laws of a header's 92 bytes as `specs/Headers.antt` lays them: each piece stands at its place. No contract cites this file. Assumes nothing.
+-- The laws of the header's block that lay writes (`specs/Headers`): its length, the GUID in it, that its numbers fit their fields, that its table passes the
+-- check, and that no other header does. No contract cites this file. Assumes nothing.
 use mathlib.Core.Path.{_≡_, refl, sym, ap, _∙_}
-use mathlib.Core.List.{List, [], _++_, append-assoc, append-nil}
-use Prim.Native.Nat.{ℕ, _+_}
+use mathlib.Core.Bool.{true, not}
+use mathlib.Core.List.{List, [], _++_, append-nil}
+use Prim.Native.Nat.{ℕ, _+_, _-_, _^_, _≤_, _<_}
 use native.Mathlib.Omega.{arith}
-use lib.ListN.{length, take, length-append}
-use lib.Seq.{sets, take-at, drop-at}
-use Rattle.units.specs.Bytes.{part}
-use Rattle.units.proofs.Lists.{sets-all, sets-left, sets-right}
-use Rattle.units.proofs.Laws.{length-bytes}
-use Rattle.header.specs.Format.{signature}
-use Rattle.tables.specs.Entries.{zeros}
-use Rattle.tables.specs.Headers.{Side, kind, ground, shape, header, sealed}
-use Rattle.tables.proofs.EntryLaws.{length-zeros}
+use borrow.Author.Tests.{eq-eqb, eqb-true, not-false}
+use lib.Dec.{eqb}
+use lib.ListN.{length, take, replicate, length-append, length-replicate}
+use lib.Seq.{take-all, take-at}
+use Rattle.units.specs.declared.Guid.{Guid}
+use Rattle.units.specs.Answer.{when, plain}
+use Rattle.units.specs.Bytes.{part, le, num, bytes, same}
+use Rattle.units.specs.Guids.{tailBytes, guidAt, guidBytes}
+use Rattle.units.specs.Held.{Small, GuidHeld}
+use Rattle.units.proofs.Chains.{else-none, else-first, else-second, when-none, none-when}
+use Rattle.units.proofs.Laws.{length-bytes, low-bytes, bytes-num, same-true, and-both}
+use Rattle.units.proofs.GuidLaws.{guid-part}
+use Rattle.crc32.specs.Crc.{crc}
+use Rattle.crc32.specs.Register.{crc-fits}
+use Rattle.crc32.specs.HeaderSum.{headerSum}
+use Rattle.header.specs.declared.Header.{Header}
+use Rattle.header.specs.Format.{signature, headerAt, headerBytes}
+use Rattle.header.specs.Writing.{stored, summed, withSums}
+use Rattle.header.proofs.Laws.{length-header, FitHeader, header-here, header-bytes-back, sum-blind, fit-summed, sum-right}
+use Rattle.tables.specs.Places.{lastUsable}
+use Rattle.tables.specs.Lens.{Side, Front, Back}
+use Rattle.tables.specs.Headers.{ownBlock, otherBlock, arrayStart, cardHeader, headBlock, copyOf, alike, laidFields}
+use Rattle.tables.specs.Check.{copyCheck, tableCheck, guidOf}
+use Rattle.tables.proofs.Orders.{same-of}
+use Rattle.tables.proofs.Room.{Room}
+use Rattle.tables.proofs.Builder.{last-fits}
 
--- ---- pieces of a list of pieces
+-- the block is a whole block
+pub block-long : (B n : ℕ) (s : Side) (g : Guid) (parts : ℕ) → 92 ≤ B → length (headBlock B n s g parts) ≡ B
+unfolding headBlock
+block-long B n s g parts h =
+    let x : Header = stored (withSums (cardHeader B n s g) parts) in
+    length-append (headerBytes x) (replicate (B - 92) 0) ∙ omega (arith, length-header x, length-replicate {A = ℕ} (B - 92) 0)
 
-piece : (xs p q r : List ℕ) (a m : ℕ) → xs ≡ p ++ (q ++ r) → length p ≡ a → length q ≡ m → part xs a m ≡ q
-piece xs p q r a m e f h = rw e (ap (λ (l : List ℕ). take m l) (drop-at p (q ++ r) a f) ∙ take-at q r m h)
+pub copy-array : (B n : ℕ) (s : Side) (g arr : List ℕ) → copyOf B n s g arr .array ≡ arr
+unfolding copyOf
+copy-array B n s g arr = refl
 
--- another piece of its length stored in its place
-repiece : (xs p q r q′ : List ℕ) (a : ℕ) → xs ≡ p ++ (q ++ r) → length p ≡ a → length q ≡ length q′ → sets xs a q′ ≡ p ++ (q′ ++ r)
-repiece xs p q r q′ a e f h =
-    let z : length q + 0 ≡ length q = omega arith in
-    let k : length p + 0 ≡ a = omega arith in
-    let g : sets q 0 q′ ≡ q′ = sets-all q q′ h in
-    rw (e, ← k) (sets-right p (q ++ r) 0 q′ ∙ ap (λ (l : List ℕ). p ++ l) (sets-left q r 0 q′ (omega arith) ∙ ap (λ (l : List ℕ). l ++ r) g))
+-- ---- the GUID
 
--- ---- the header's pieces
+-- a number's bytes are those of the number that they make, whether or not it fits
+bytes-le : (n x : ℕ) → bytes n (le (bytes n x)) ≡ bytes n x
+unfolding num
+bytes-le n x =
+    let t : part (bytes n x) 0 n ≡ bytes n x = take-all n (bytes n x) (omega (arith, length-bytes n x)) in
+    ap (λ (l : List ℕ). bytes n (le l)) (sym t) ∙ bytes-num (bytes n x) 0 n (omega (arith, length-bytes n x)) (low-bytes n x .each) ∙ t
 
-length-kind : length kind ≡ 8
-unfolding kind
-length-kind = simp (length-append, length-bytes)
+-- so are a GUID's
+guid-fields : (g : Guid) → guidBytes (guidAt (guidBytes g) 0)
+    ≡ bytes 4 (le (bytes 4 (g .«time_low»))) ++ (bytes 2 (le (bytes 2 (g .«time_mid»))) ++ (bytes 2 (le (bytes 2 (g .«time_high»))) ++ tailBytes (g .tail)))
+unfolding num bytes
+guid-fields g = refl
 
-length-ground : (B n : ℕ) (s : Side) → length (ground B n s) ≡ 36
-unfolding ground
-length-ground B n s = simp (length-append, length-bytes)
+pub guid-twice : (g : Guid) → guidBytes (guidAt (guidBytes g) 0) ≡ guidBytes g
+guid-twice g = guid-fields g ∙ rw (bytes-le 4 (g .«time_low»), bytes-le 2 (g .«time_mid»), bytes-le 2 (g .«time_high»))
 
-length-shape : (B n : ℕ) (s : Side) → length (shape B n s) ≡ 16
-unfolding shape
-length-shape B n s = simp (length-append, length-bytes)
+-- a block holds no more of a GUID than its bytes
+block-same : (B n : ℕ) (s : Side) (g h : Guid) (parts : ℕ) → guidBytes g ≡ guidBytes h → headBlock B n s g parts ≡ headBlock B n s h parts
+unfolding headBlock withSums
+block-same B n s g h parts e = rw e
 
-module _ (B n : ℕ) (s : Side) (sum g parts : List ℕ) (ls : length sum ≡ 4) (lg : length g ≡ 16) (lp : length parts ≡ 4) where
-  pub length-header : length (header B n s sum g parts) ≡ 92
-  unfolding header
-  length-header = simp (length-append, length-kind, length-ground, length-shape, ls, lg, lp)
+pub block-twice : (B n : ℕ) (s : Side) (g : Guid) (parts : ℕ) → headBlock B n s (guidAt (guidBytes g) 0) parts ≡ headBlock B n s g parts
+block-twice B n s g parts = block-same B n s _ g parts (guid-twice g)
 
-  pub header-signature : part (header B n s sum g parts) 0 8 ≡ signature
-  unfolding header
-  header-signature = refl
+-- they are the disk GUID of the table
+pub copy-guid : (B n : ℕ) (s : Side) (g arr : List ℕ) → guidOf (copyOf B n s g arr) ≡ guidBytes (guidAt g 0)
+unfolding guidOf copyOf headBlock withSums bytes
+copy-guid B n s g arr = refl
 
-  pub header-sum : part (header B n s sum g parts) 16 4 ≡ sum
-  unfolding header
-  header-sum =
-      piece (header B n s sum g parts) (signature ++ kind) sum (ground B n s ++ (g ++ (shape B n s ++ parts))) 16 4
-      (simp append-assoc) (simp length-kind) ls
+-- ---- the fields
 
-  pub header-zeroed : sets (header B n s sum g parts) 16 (zeros 4) ≡ header B n s (zeros 4) g parts
-  unfolding header
-  header-zeroed =
-      repiece (header B n s sum g parts) (signature ++ kind) sum (ground B n s ++ (g ++ (shape B n s ++ parts))) (zeros 4) 16
-      (simp append-assoc) (simp length-kind) (ls ∙ sym (length-zeros 4)) ∙ append-assoc signature kind _
+-- the numbers of a side's header fit their fields
+pub fit-card : (B n : ℕ) (s : Side) (g : Guid) → Room B n → n < 2 ^ 64 → GuidHeld g → FitHeader (cardHeader B n s g)
+fit-card B n s g r l h =
+    let u : lastUsable B n + 1 < 2 ^ 64 = last-fits B n r l in
+    record {
+      major = omega arith;
+      minor = omega arith;
+      size = omega arith;
+      sum = omega arith;
+      reserved = omega arith;
+      current = own s;
+      backup = other s;
+      first = omega (arith, r .order);
+      last = omega arith;
+      disk = h;
+      start = start s;
+      count = omega arith;
+      each = omega arith;
+      parts = omega arith;
+    }
+  where
+    own : (s : Side) → ownBlock B n s < 2 ^ 64
+    own Front = omega arith
+    own Back = omega (arith, r .few)
 
-  pub header-guid : part (header B n s sum g parts) 56 16 ≡ g
-  unfolding header
-  header-guid =
-      piece (header B n s sum g parts) (signature ++ (kind ++ (sum ++ ground B n s))) g (shape B n s ++ parts) 56 16
-      (simp append-assoc) (simp (length-append, length-kind, length-ground, ls)) lg
+    other : (s : Side) → otherBlock B n s < 2 ^ 64
+    other Front = omega (arith, r .few)
+    other Back = omega arith
 
-  pub header-parts : part (header B n s sum g parts) 88 4 ≡ parts
-  unfolding header
-  header-parts =
-      piece (header B n s sum g parts) (signature ++ (kind ++ (sum ++ (ground B n s ++ (g ++ shape B n s))))) parts [] 88 4
-      (simp (append-assoc, append-nil)) (simp (length-append, length-kind, length-ground, length-shape, ls, lg)) lp
+    start : (s : Side) → arrayStart B n s < 2 ^ 64
+    start Front = omega arith
+    start Back = last-fits B n r l
 
-pub length-sealed : (B n : ℕ) (s : Side) (g arr : List ℕ) → length g ≡ 16 → length (sealed B n s g arr) ≡ 92
-unfolding sealed
-length-sealed B n s g arr lg = length-header B n s _ g _ (length-bytes 4 _) lg (length-bytes 4 _)
+-- with its sums it is like what lay writes
+laid : (B n : ℕ) (s : Side) (g : Guid) (parts : ℕ) → laidFields B n s (stored (withSums (cardHeader B n s g) parts)) ≡ true
+unfolding laidFields alike withSums
+laid B n s g parts = simp eqb-self
+  where
+    eqb-self : (a : ℕ) → eqb a a ≡ true
+    eqb-self a = eq-eqb a a refl
 
-pub sealed-guid : (B n : ℕ) (s : Side) (g arr : List ℕ) → length g ≡ 16 → part (sealed B n s g arr) 56 16 ≡ g
-unfolding sealed
-sealed-guid B n s g arr lg = header-guid B n s _ g _ (length-bytes 4 _) lg (length-bytes 4 _)
+parts : (h : Header) (p : ℕ) → p ≡ stored (withSums h p) .«crc32_parts»
+unfolding withSums
+parts h p = refl
+
+-- a header with the signature, its own sum, lay's fields and the array's sum passes
+passes : (B n : ℕ) (s : Side) (x arr : List ℕ) (h : Header) → part x 0 8 ≡ signature → headerAt x 0 ≡ h → h .crc32 ≡ headerSum x 0 → laidFields B n s h ≡ true
+    → crc arr ≡ h .«crc32_parts» → copyCheck B n s x arr .number ≡ 0
+unfolding copyCheck
+passes B n s x arr h e r c l p =
+    else-none _ _ (when-none _ (plain 4) (ap not (same-of e)))
+    (else-none _ _ (when-none _ (plain 5) (ap not (eq-eqb _ _ (sym c ∙ ap (λ (k : Header). k .crc32) (sym r)))))
+    (else-none _ _ (when-none _ (plain 16) (ap not (ap (laidFields B n s) r ∙ l)))
+    (when-none _ (plain 6) (ap not (eq-eqb _ _ (p ∙ ap (λ (k : Header). k .«crc32_parts») (sym r)))))))
+
+-- so the tables that lay writes pass, one by one
+pub copy-passes : (B n : ℕ) (s : Side) (g arr : List ℕ) → Room B n → n < 2 ^ 64 → GuidHeld (guidAt g 0) → Small arr → tableCheck B n s (copyOf B n s g arr) .number ≡ 0
+unfolding copyOf headBlock
+copy-passes B n s g arr r l h a =
+    let k : Header = cardHeader B n s (guidAt g 0) in
+    let v : Header = stored (withSums k (crc arr)) in
+    let f : FitHeader v = fit-summed k (crc arr) (fit-card B n s (guidAt g 0) r l h) (crc-fits arr a) in
+    let e : headerAt (headerBytes v) 0 ≡ v = ap (λ (x : List ℕ). headerAt x 0) (sym (append-nil (headerBytes v))) ∙ header-here v [] f in
+    ap (λ (x : List ℕ). copyCheck B n s x arr .number) (take-at (headerBytes v) (replicate (B - 92) 0) 92 (length-header v))
+    ∙ passes B n s (headerBytes v) arr v refl e (sum-right k (crc arr)) (laid B n s (guidAt g 0) (crc arr)) (parts k (crc arr))
+
+-- ---- what passes
+
+-- the equations that `alike` tests
+pub record Alike (h k : Header) : Type 0 where
+  pub minor : h .revision .1 ≡ k .revision .1
+  pub major : h .revision .0 ≡ k .revision .0
+  pub size : h .«header_size_le» ≡ k .«header_size_le»
+  pub reserved : h .reserved ≡ k .reserved
+  pub current : h .«current_lba» .0 ≡ k .«current_lba» .0
+  pub backup : h .«backup_lba» .0 ≡ k .«backup_lba» .0
+  pub first : h .«first_usable» .0 ≡ k .«first_usable» .0
+  pub last : h .«last_usable» .0 ≡ k .«last_usable» .0
+  pub start : h .«part_start» .0 ≡ k .«part_start» .0
+  pub count : h .«num_parts» ≡ k .«num_parts»
+  pub each : h .«part_size» ≡ k .«part_size»
+
+pub alike-tells : (h k : Header) → alike h k ≡ true → Alike h k
+unfolding alike
+alike-tells h k e =
+    let a = and-both _ _ e in
+    let b = and-both _ _ (a .1) in
+    let c = and-both _ _ (b .1) in
+    let d = and-both _ _ (c .1) in
+    let f = and-both _ _ (d .1) in
+    let g = and-both _ _ (f .1) in
+    let i = and-both _ _ (g .1) in
+    let j = and-both _ _ (i .1) in
+    let l = and-both _ _ (j .1) in
+    let m = and-both _ _ (l .1) in
+    record {
+      minor = eqb-true _ _ (a .0);
+      major = eqb-true _ _ (b .0);
+      size = eqb-true _ _ (c .0);
+      reserved = eqb-true _ _ (d .0);
+      current = eqb-true _ _ (f .0);
+      backup = eqb-true _ _ (g .0);
+      first = eqb-true _ _ (i .0);
+      last = eqb-true _ _ (j .0);
+      start = eqb-true _ _ (l .0);
+      count = eqb-true _ _ (m .0);
+      each = eqb-true _ _ (m .1);
+    }
+
+-- what a header's bytes that pass tell, beside an array
+pub record Passed (B n : ℕ) (s : Side) (x arr : List ℕ) : Type 0 where
+  pub mark : part x 0 8 ≡ signature
+  pub own : headerSum x 0 ≡ headerAt x 0 .crc32
+  pub laid : Alike (headerAt x 0) (cardHeader B n s (headerAt x 0 .«disk_guid»))
+  pub parts : crc arr ≡ headerAt x 0 .«crc32_parts»
+
+pub passed : (B n : ℕ) (s : Side) (x arr : List ℕ) → copyCheck B n s x arr .number ≡ 0 → Passed B n s x arr
+unfolding copyCheck laidFields
+passed B n s x arr h =
+    let a = when (not (same (part x 0 8) signature)) (plain 4) in
+    let b = when (not (eqb (headerSum x 0) (headerAt x 0 .crc32))) (plain 5) in
+    let c = when (not (laidFields B n s (headerAt x 0))) (plain 16) in
+    let h2 = else-second a _ h in
+    let h3 = else-second b _ h2 in
+    record {
+      mark = same-true _ _ (not-false _ (none-when _ (plain 4) tt (else-first a _ h)));
+      own = eqb-true _ _ (not-false _ (none-when _ (plain 5) tt (else-first b _ h2)));
+      laid = alike-tells _ _ (not-false _ (none-when _ (plain 16) tt (else-first c _ h3)));
+      parts = eqb-true _ _ (not-false _ (none-when _ (plain 6) tt (else-second c _ h3)));
+    }
+
+-- its fields are lay's, with the sums that it has
+passed-fields : (B n : ℕ) (s : Side) (x arr : List ℕ) → Passed B n s x arr → headerAt x 0 ≡ summed (cardHeader B n s (guidAt x 56)) (num x 16 4) (crc arr)
+passed-fields B n s x arr p =
+    let l = p .laid in
+    rw (l .minor, l .major, l .size, l .reserved, l .current, l .backup, l .first, l .last, l .start, l .count, l .each, p .parts)
+
+-- so are its bytes: no test of a field is missing, and what passes is, byte for byte, the header that lay writes for its GUID and its array
+pub passed-header : (B n : ℕ) (s : Side) (x arr : List ℕ) → length x ≡ 92 → Small x → copyCheck B n s x arr .number ≡ 0 → x ≡ take 92 (copyOf B n s (part x 56 16) arr .header)
+unfolding copyOf headBlock withSums
+passed-header B n s x arr l b h =
+    let p : Passed B n s x arr = passed B n s x arr h in
+    let k : Header = cardHeader B n s (guidAt x 56) in
+    let e : headerBytes (summed k (num x 16 4) (crc arr)) ≡ x =
+    ap headerBytes (sym (passed-fields B n s x arr p)) ∙ header-bytes-back x 0 (omega arith) b (p .mark) ∙ take-all 92 x (omega arith) in
+    let o : num x 16 4 ≡ headerSum (headerBytes (summed k 0 (crc arr))) 0 =
+    sym (p .own) ∙ ap (λ (y : List ℕ). headerSum y 0) (sym e) ∙ sum-blind k (num x 16 4) 0 (crc arr) in
+    let g : guidAt (part x 56 16) 0 ≡ guidAt x 56 = guid-part x 56 16 0 (omega arith) in
+    sym e
+    ∙ ap (λ (c : ℕ). headerBytes (summed k c (crc arr))) o
+    ∙ sym (take-at (headerBytes (summed k (headerSum (headerBytes (summed k 0 (crc arr))) 0) (crc arr))) (replicate (B - 92) 0) 92 (length-header _))
+    ∙ ap (λ (i : Guid). take 92 (headBlock B n s i (crc arr))) (sym g)

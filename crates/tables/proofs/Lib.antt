@@ -1,24 +1,11 @@
--- The laws of the card's definitions, for this crate and those above it.
+-- The laws of the tables' definitions, for this crate and those above it.
 pub mod Orders
 pub mod Room
 pub mod LensLaws
 pub mod EntryLaws
+pub mod Builder
 pub mod HeaderLaws
 pub mod Good
-pub mod State
-pub mod Changes
-pub mod Payload
-pub mod Builder
-pub mod Records
-pub mod Steps
-pub mod Readers
-pub mod Others
-pub mod Listings
-pub mod Demand
-pub mod Stores
-pub mod Bridge
 pub mod ReadCheck
-pub mod Corollaries
-pub mod Ways
-pub mod NumberWays
-pub mod LayWays
+pub mod RoomWays
+pub mod Copies

@@ -1,5 +1,4 @@
--- The laws of checks in their order and of tests over all places, from `specs/Checks.antt`: what an answer of theirs says. No contract cites this file.
--- Assumes nothing.
+-- The laws of tests over all places, from `specs/Checks`, and of cases on numbers and tests. No contract cites this file. Assumes nothing.
 use mathlib.Core.Path.{_≡_, refl, sym, ap, _∙_}
 use mathlib.Core.Logic.{_⊎_, inl, inr}
 use mathlib.Core.Bool.{Bool, true, false, _&&_, _||_}
@@ -9,11 +8,11 @@ use native.Mathlib.Nat.{lt-of-not-le}
 use native.Mathlib.Decide.{decLe}
 use native.Mathlib.Omega.{arith}
 use borrow.Author.Tests.{eqb-true, eqb-false}
-use lib.Dec.{T, eqb, ltb, ltb→lt}
+use lib.Dec.{eqb}
 use Rattle.units.specs.Answer.{pick}
 use Rattle.units.specs.Bytes.{same}
 use Rattle.units.proofs.Laws.{same-refl}
-use Rattle.tables.specs.Checks.{when, orElse, all, lowest}
+use Rattle.tables.specs.Checks.{all, lowest}
 
 -- one order or the other
 pub split {ℓ} : {X : Type ℓ} (a b : ℕ) → (a ≤ b → X) → (b < a → X) → X
@@ -37,37 +36,6 @@ by-pick P false a b f g = g refl
 pub by-test {ℓ} : {X : Type ℓ} (t : Bool) → (t ≡ true → X) → (t ≡ false → X) → X
 by-test true f g = f refl
 by-test false f g = g refl
-
--- ---- checks in their order
-
-pub else-none : {a b : ℕ} → a ≡ 0 → b ≡ 0 → orElse a b ≡ 0
-else-none {a} {b} p q = ap (λ (x : ℕ). orElse x b) p ∙ q
-
-pub else-first : (a b : ℕ) → orElse a b ≡ 0 → a ≡ 0
-else-first zero b h = refl
-else-first (suc k) b h = h
-
-pub else-second : (a b : ℕ) → orElse a b ≡ 0 → b ≡ 0
-else-second zero b h = h
-else-second (suc k) b h = absurd (omega arith)
-
-pub when-none : (t : Bool) (k : ℕ) → t ≡ false → when t k ≡ 0
-when-none t k e = ap (λ (b : Bool). when b k) e
-
-pub none-when : (t : Bool) (k : ℕ) → T (ltb 0 k) → when t k ≡ 0 → t ≡ false
-none-when true k h e = absurd (omega (arith, ltb→lt 0 k h))
-none-when false k h e = refl
-
--- the paths of the code through them
-pub else-skip : (a b : ℕ) → a ≡ 0 → orElse a b ≡ b
-else-skip a b e = ap (λ (x : ℕ). orElse x b) e
-
-pub else-take : (a b : ℕ) → (a ≡ 0 → ⊥) → orElse a b ≡ a
-else-take zero b h = absurd (h refl)
-else-take (suc k) b h = refl
-
-pub when-true : (t : Bool) (k : ℕ) → t ≡ true → when t k ≡ k
-when-true t k e = ap (λ (b : Bool). when b k) e
 
 -- ---- and, or, in parts
 

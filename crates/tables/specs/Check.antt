@@ -1,35 +1,36 @@
--- The card check, which comes first in put, clear, payload write and listing: a number from the image's length, the block size and the two tables.
+-- The card check, which comes first in put, clear, payload write and listing: a refusal, or none, from the image's length, the block size and the two tables.
 -- From document 01, "Card check": 1, 8, 10; 4, 5, 16, 6 of the primary and of the backup; 17; 16. Block 0 is not read. Assumes nothing.
-use mathlib.Core.Bool.{not, _&&_}
+use mathlib.Core.Bool.{Bool, not, _&&_, _||_}
 use mathlib.Core.List.{List}
 use Prim.Native.Nat.{ℕ, _+_, _*_, _-_}
-use lib.Dec.{ltb}
-use lib.ListN.{take}
-use lib.Seq.{sets}
-use Rattle.units.specs.Bytes.{part, bytes, same}
+use lib.Dec.{eqb, ltb}
+use lib.ListN.{length, take}
+use Rattle.units.specs.declared.why.Why.{Why}
+use Rattle.units.specs.Answer.{Answer, plain, when, orElse, judged}
+use Rattle.units.specs.Bytes.{part, same}
 use Rattle.units.specs.Places.{goodSize}
 use Rattle.crc32.specs.Crc.{crc}
-use Rattle.header.specs.Format.{signature}
-use Rattle.tables.specs.Checks.{when, orElse}
+use Rattle.crc32.specs.HeaderSum.{headerSum}
+use Rattle.header.specs.Format.{signature, headerAt}
 use Rattle.tables.specs.Places.{blocks, arrayBlocks}
-use Rattle.tables.specs.Lens.{Copy, Tables}
-use Rattle.tables.specs.Entries.{zeros, entriesOk}
-use Rattle.tables.specs.Headers.{Side, Front, Back, header}
+use Rattle.tables.specs.Lens.{Side, Front, Back, Copy, Tables, tables}
+use Rattle.tables.specs.Entries.{entriesOk}
+use Rattle.tables.specs.Headers.{laidFields}
 
--- 1, 8, 10
-unfoldable pub roomCheck : ℕ → ℕ → ℕ
+-- 1 bad block size, 8 below three blocks, 10 no room for two tables
+unfoldable pub roomCheck : ℕ → ℕ → Why
 roomCheck B n =
-    orElse (when (not (goodSize B)) 1)
-    (orElse (when (ltb n (3 * B)) 8)
-    (when (ltb (blocks B n - 1) (2 * arrayBlocks B + 3)) 10))
+    orElse (when (not (goodSize B)) (plain 1))
+    (orElse (when (ltb n (3 * B)) (plain 8))
+    (when (ltb (blocks B n - 1) (2 * arrayBlocks B + 3)) (plain 10)))
 
--- 4, 5, 16, 6 of one table, whose header's 92 bytes are x. 16 is given if any byte but those of the GUID and the two sums differs from what lay would write
-unfoldable pub copyCheck : ℕ → ℕ → Side → List ℕ → List ℕ → ℕ
+-- 4 signature, 5 header sum, 16 layout, 6 array sum of one table, whose header's 92 bytes are x. 16 is given if any field but the GUID and the two sums is not the one that lay would write
+unfoldable pub copyCheck : ℕ → ℕ → Side → List ℕ → List ℕ → Why
 copyCheck B n s x arr =
-    orElse (when (not (same (part x 0 8) signature)) 4)
-    (orElse (when (not (same (part x 16 4) (bytes 4 (crc (sets x 16 (zeros 4)))))) 5)
-    (orElse (when (not (same x (header B n s (part x 16 4) (part x 56 16) (part x 88 4)))) 16)
-    (when (not (same (part x 88 4) (bytes 4 (crc arr)))) 6)))
+    orElse (when (not (same (part x 0 8) signature)) (plain 4))
+    (orElse (when (not (eqb (headerSum x 0) (headerAt x 0 .crc32))) (plain 5))
+    (orElse (when (not (laidFields B n s (headerAt x 0))) (plain 16))
+    (when (not (eqb (crc arr) (headerAt x 0 .«crc32_parts»))) (plain 6))))
 
 -- the 92 bytes of a header's block, and the disk GUID's sixteen among them
 abbrev pub headOf : Copy → List ℕ
@@ -38,10 +39,35 @@ headOf c = take 92 (c .header)
 unfoldable pub guidOf : Copy → List ℕ
 guidOf c = part (headOf c) 56 16
 
-unfoldable pub check : ℕ → ℕ → Tables → ℕ
+-- 17 the two tables differ, whose GUIDs are g and h and whose arrays are x and y; 16 an entry is wrong
+unfoldable pub pairCheck : ℕ → ℕ → List ℕ → List ℕ → List ℕ → List ℕ → Why
+pairCheck B n g h x y =
+    orElse (when (not (same g h && same x y)) (plain 17))
+    (when (not (entriesOk B n x)) (plain 16))
+
+-- the tests of the two tables beside each other
+abbrev pub tablesCheck : ℕ → ℕ → Tables → Why
+tablesCheck B n t = pairCheck B n (guidOf (t .front)) (guidOf (t .back)) (t .front .array) (t .back .array)
+
+-- the tests of one table
+abbrev pub tableCheck : ℕ → ℕ → Side → Copy → Why
+tableCheck B n s c = copyCheck B n s (headOf c) (c .array)
+
+unfoldable pub check : ℕ → ℕ → Tables → Why
 check B n t =
     orElse (roomCheck B n)
-    (orElse (copyCheck B n Front (headOf (t .front)) (t .front .array))
-    (orElse (copyCheck B n Back (headOf (t .back)) (t .back .array))
-    (orElse (when (not (same (guidOf (t .front)) (guidOf (t .back)) && same (t .front .array) (t .back .array))) 17)
-    (when (not (entriesOk B n (t .front .array))) 16))))
+    (orElse (tableCheck B n Front (t .front))
+    (orElse (tableCheck B n Back (t .back))
+    (tablesCheck B n t)))
+
+-- slots count from 1
+abbrev pub badSlot : ℕ → Bool
+badSlot s = ltb s 1 || ltb 128 s
+
+-- 18 no such slot, after the check: the tests of a call on one slot
+unfoldable pub slotCheck : ℕ → ℕ → Tables → ℕ → Why
+slotCheck B n t s = orElse (check B n t) (when (badSlot s) (plain 18))
+
+-- what the public call answers
+abbrev pub checkAnswer : ℕ → List ℕ → Answer Unit
+checkAnswer B xs = judged (check B (length xs) (tables B xs)) tt

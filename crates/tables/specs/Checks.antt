@@ -1,18 +1,7 @@
--- Checks in their order, and tests over all array places: the words in which the card calls are defined.
--- From document 01, "Numbers a call can come back with": checks run in their order, and the first that applies gives its number. Assumes nothing.
-use mathlib.Core.Bool.{Bool, true, false, _&&_}
+-- Tests over all array places, in which the card calls are defined. From document 01, "Card check" and "Put": each entry, the lowest slot. Assumes nothing.
+use mathlib.Core.Bool.{Bool, true, _&&_}
 use Prim.Native.Nat.{ℕ, zero, suc}
 use Rattle.units.specs.Answer.{pick}
-
--- one check: its number where the test says so, else 0
-abbrev pub when : Bool → ℕ → ℕ
-when true k = k
-when false k = 0
-
--- the first check's number, else the second's
-abbrev pub orElse : ℕ → ℕ → ℕ
-orElse zero m = m
-orElse (suc k) m = suc k
 
 -- the test holds of every k below n
 unfoldable pub all : ℕ → (ℕ → Bool) → Bool

@@ -1,36 +1,16 @@
--- The headers of a card as lay writes them, byte by byte, and the tables that they make with an array. That these are the headers that the builder gives,
--- stored by the header's own format, is shown in proofs/Builder. From document 01, "The card calls". Assumes nothing.
-use mathlib.Core.Bool.{Bool, true, false, _&&_}
-use mathlib.Core.List.{List, _++_}
+-- The headers of a card as lay writes them, by their fields, and the tables that they make with an array. Their bytes are those of the header's own format.
+-- That these are the headers that the builder gives is shown in proofs/Builder. From document 01, "The card calls". Assumes nothing.
+use mathlib.Core.Bool.{Bool, _&&_}
+use mathlib.Core.List.{List}
 use Prim.Native.Nat.{ℕ, _+_, _-_}
 use lib.Dec.{eqb}
 use Rattle.units.specs.declared.Guid.{Guid}
-use Rattle.units.specs.Bytes.{bytes}
+use Rattle.units.specs.Guids.{guidAt}
 use Rattle.crc32.specs.Crc.{crc}
 use Rattle.header.specs.declared.Header.{Header}
-use Rattle.header.specs.Format.{signature}
 use Rattle.header.specs.Writing.{withSums, headerBlock}
-use Rattle.tables.specs.Places.{blocks, firstUsable, lastUsable, backArray, backHeader}
-use Rattle.tables.specs.Lens.{Copy, Tables}
-use Rattle.tables.specs.Entries.{zeros}
-
-pub data Side : Type 0 where
-  Front Back : Side
-
--- the code's word for a side
-abbrev pub sideOf : Bool → Side
-sideOf false = Front
-sideOf true = Back
-
--- the byte place of a header's block
-abbrev pub headerPlace : ℕ → ℕ → Side → ℕ
-headerPlace B n Front = B
-headerPlace B n Back = backHeader B n
-
--- the byte place of an array
-abbrev pub arrayPlace : ℕ → ℕ → Side → ℕ
-arrayPlace B n Front = B + B
-arrayPlace B n Back = backArray B n
+use Rattle.tables.specs.Places.{blocks, firstUsable, lastUsable}
+use Rattle.tables.specs.Lens.{Side, Front, Back, Copy, Tables}
 
 -- current, backup and array start
 abbrev pub ownBlock : ℕ → ℕ → Side → ℕ
@@ -45,34 +25,7 @@ abbrev pub arrayStart : ℕ → ℕ → Side → ℕ
 arrayStart B n Front = 2
 arrayStart B n Back = lastUsable B n + 1
 
--- bytes 8 to 15: revision 1.0, header size 92
-unfoldable pub kind : List ℕ
-kind = bytes 2 0 ++ (bytes 2 1 ++ bytes 4 92)
-
--- bytes 20 to 55: reserved, current, backup, first and last usable
-unfoldable pub ground : ℕ → ℕ → Side → List ℕ
-ground B n s = bytes 4 0 ++ (bytes 8 (ownBlock B n s) ++ (bytes 8 (otherBlock B n s) ++ (bytes 8 (firstUsable B) ++ bytes 8 (lastUsable B n))))
-
--- bytes 72 to 87: array start, entry count, entry size
-unfoldable pub shape : ℕ → ℕ → Side → List ℕ
-shape B n s = bytes 8 (arrayStart B n s) ++ (bytes 4 128 ++ bytes 4 128)
-
--- the 92 bytes, from the check sum's four, the GUID's sixteen and the array sum's four
-unfoldable pub header : ℕ → ℕ → Side → List ℕ → List ℕ → List ℕ → List ℕ
-header B n s sum g parts = signature ++ (kind ++ (sum ++ (ground B n s ++ (g ++ (shape B n s ++ parts)))))
-
--- with both sums
-unfoldable pub sealed : ℕ → ℕ → Side → List ℕ → List ℕ → List ℕ
-sealed B n s g arr = header B n s (bytes 4 (crc (header B n s (zeros 4) g (bytes 4 (crc arr))))) g (bytes 4 (crc arr))
-
--- the tables that lay would write for a GUID's sixteen bytes and an array
-unfoldable pub copyOf : ℕ → ℕ → Side → List ℕ → List ℕ → Copy
-copyOf B n s g arr = record { header = sealed B n s g arr ++ zeros (B - 92); array = arr }
-
-abbrev pub cardOf : ℕ → ℕ → List ℕ → List ℕ → Tables
-cardOf B n g arr = record { front = copyOf B n Front g arr; back = copyOf B n Back g arr }
-
--- the same header by its fields, before it has its sums
+-- the header of a side, before it has its sums
 abbrev pub cardHeader : ℕ → ℕ → Side → Guid → Header
 cardHeader B n s g =
     record {
@@ -91,9 +44,16 @@ cardHeader B n s g =
       «crc32_parts» = 0;
     }
 
--- the block that stores it, once the array's sum is known: `copyOf` has the same block for each array of that sum
+-- the block that stores it, with the array's sum and then its own
 unfoldable pub headBlock : ℕ → ℕ → Side → Guid → ℕ → List ℕ
 headBlock B n s g parts = headerBlock (withSums (cardHeader B n s g) parts) B
+
+-- the tables that lay would write for a GUID's sixteen bytes and an array
+unfoldable pub copyOf : ℕ → ℕ → Side → List ℕ → List ℕ → Copy
+copyOf B n s g arr = record { header = headBlock B n s (guidAt g 0) (crc arr); array = arr }
+
+abbrev pub cardOf : ℕ → ℕ → List ℕ → List ℕ → Tables
+cardOf B n g arr = record { front = copyOf B n Front g arr; back = copyOf B n Back g arr }
 
 -- two headers are the same in all fields but the GUID and the sums
 unfoldable pub alike : Header → Header → Bool

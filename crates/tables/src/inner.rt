@@ -1,26 +1,24 @@
 // Leaves for our own crates: each `requires` is what its caller has tested. No public calls.
+// `copy` is one table's own b + 16,384 bytes: in front the header's block and then the array, at the back the array and then the header's block. `len` is the card's length in bytes.
 use header::Header;
 use header::Revision;
 use units::BytePlace;
 use units::Guid;
 use units::Lba;
-use units::Refusal;
 use units::Slot;
-use units::Verdict;
+use units::why;
+use units::why::Why;
 ghost use mathlib.Core.Path.{_≡_};
 ghost use mathlib.Core.Bool.{false};
 ghost use Prim.Native.Nat.{_+_, _*_, _-_, _≤_, _<_};
 ghost use lib.ListN.{length};
 ghost use lib.Seq.{sets};
-ghost use Rattle.units.specs.Bytes.{part};
-ghost use Rattle.units.specs.Meanings.{verdictMeans};
 ghost use Rattle.crc32.specs.Crc.{crc};
 ghost use Rattle.crc32.specs.Rows.{Rows};
-ghost use Rattle.tables.specs.Places.{blocks, firstUsable, lastUsable, backHeader};
-ghost use Rattle.tables.specs.Entries.{zeros};
-ghost use Rattle.tables.specs.Headers.{Front, Back, sideOf, ownBlock, otherBlock, arrayStart, headerPlace, arrayPlace, cardHeader, headBlock};
-ghost use Rattle.tables.specs.Check.{roomCheck};
-ghost use Rattle.tables.specs.Calls.{judged, badSlot};
+ghost use Rattle.tables.specs.Places.{blocks, firstUsable, lastUsable, backArray};
+ghost use Rattle.tables.specs.Lens.{sideOf, headerIn, arrayIn, copyIn};
+ghost use Rattle.tables.specs.Headers.{ownBlock, otherBlock, arrayStart, cardHeader, headBlock};
+ghost use Rattle.tables.specs.Check.{roomCheck, badSlot};
 
 // How many whole blocks len bytes have.
 pub fn block_count(len: usize, b: u64) -> u64
@@ -30,54 +28,27 @@ pub fn block_count(len: usize, b: u64) -> u64
     len as u64 / b
 }
 
-// Whether an image of len bytes has room for both tables: 1, 8, 10.
-pub fn room_number(len: usize, b: u64) -> u32
+// Whether a card of len bytes has room for both tables: 1 bad block size, 8 below three blocks, 10 no room between the tables.
+pub fn room_check(len: usize, b: u64) -> Why
     ensures { λ r. ⌜ r ≡ roomCheck b len ⌝ }
 {
     if !units::good_block_size(b) {
-        return 1;
+        return why::BAD_BLOCK_SIZE;
     }
     if len < 3 * b as usize {
-        return 8;
+        return why::TO_SMALL_FOR_BACKUP;
     }
     if block_count(len, b) - 1 < 2 * (16384 / b) + 3 {
-        return 10;
+        return why::BACKUP_LBA_TO_EARLY;
     }
-    0
+    why::FINE
 }
 
-// The verdict that a number stands for. It carries no slot.
-pub fn verdict_of(n: u32) -> Verdict
-    requires { ⌜ n ≤ 24 ⌝ }
-    ensures { λ r. ⌜ verdictMeans r ≡ judged n 0 tt ⌝ }
+// Whether a slot is none of the card's.
+pub fn bad_slot(slot: Slot) -> bool
+    ensures { λ r. ⌜ r ≡ badSlot (slot .0) ⌝ }
 {
-    match n {
-        0 => Verdict::Accepted,
-        1 => Verdict::Refused(Refusal::BadBlockSize),
-        2 => Verdict::Refused(Refusal::Short),
-        3 => Verdict::Refused(Refusal::Overflow),
-        4 => Verdict::Refused(Refusal::InvalidGptSignature),
-        5 => Verdict::Refused(Refusal::InvalidCRC32Checksum),
-        6 => Verdict::Refused(Refusal::PartsCrc),
-        7 => Verdict::Refused(Refusal::BadEntrySize),
-        8 => Verdict::Refused(Refusal::ToSmallForBackup),
-        9 => Verdict::Refused(Refusal::MissingBackupLba),
-        10 => Verdict::Refused(Refusal::BackupLbaToEarly),
-        11 => Verdict::Refused(Refusal::WritingToWrongLba),
-        12 => Verdict::Refused(Refusal::InvalidMBRLength),
-        13 => Verdict::Refused(Refusal::InvalidMBRSignature),
-        14 => Verdict::Refused(Refusal::InvalidPartitionLength),
-        15 => Verdict::Refused(Refusal::NoRoom),
-        16 => Verdict::Refused(Refusal::WrongLayout),
-        17 => Verdict::Refused(Refusal::Disagree),
-        18 => Verdict::Refused(Refusal::BadSlot),
-        19 => Verdict::Refused(Refusal::NilType),
-        20 => Verdict::Refused(Refusal::BadRange),
-        21 => Verdict::Refused(Refusal::OutsideUsable),
-        22 => Verdict::Refused(Refusal::Overlap(Slot(0))),
-        23 => Verdict::Refused(Refusal::EmptySlot),
-        _ => Verdict::Refused(Refusal::PastPartition),
-    }
+    (slot.0 < 1) | (128 < slot.0)
 }
 
 // The usable blocks, from the first to the last.
@@ -89,7 +60,7 @@ pub fn first_usable(b: u64) -> Lba
 }
 
 pub fn last_usable(len: usize, b: u64) -> Lba
-    requires { ⌜ roomCheck b len ≡ 0 ⌝ }
+    requires { ⌜ roomCheck b len .number ≡ 0 ⌝ }
     ensures { λ r. ⌜ r ≡ record { 0 = lastUsable b len } ⌝ }
 {
     Lba(block_count(len, b) - 16384 / b - 2)
@@ -97,7 +68,7 @@ pub fn last_usable(len: usize, b: u64) -> Lba
 
 // The block of a side's header: the first after block 0, or the last.
 pub fn own_block(len: usize, b: u64, back: bool) -> Lba
-    requires { ⌜ roomCheck b len ≡ 0 ⌝ }
+    requires { ⌜ roomCheck b len .number ≡ 0 ⌝ }
     ensures { λ r. ⌜ r ≡ record { 0 = ownBlock b len (sideOf back) } ⌝ }
 {
     if back {
@@ -108,7 +79,7 @@ pub fn own_block(len: usize, b: u64, back: bool) -> Lba
 
 // The block of the other side's header.
 pub fn other_block(len: usize, b: u64, back: bool) -> Lba
-    requires { ⌜ roomCheck b len ≡ 0 ⌝ }
+    requires { ⌜ roomCheck b len .number ≡ 0 ⌝ }
     ensures { λ r. ⌜ r ≡ record { 0 = otherBlock b len (sideOf back) } ⌝ }
 {
     own_block(len, b, !back)
@@ -116,7 +87,7 @@ pub fn other_block(len: usize, b: u64, back: bool) -> Lba
 
 // The first block of a side's array.
 pub fn array_start(len: usize, b: u64, back: bool) -> Lba
-    requires { ⌜ roomCheck b len ≡ 0 ⌝ }
+    requires { ⌜ roomCheck b len .number ≡ 0 ⌝ }
     ensures { λ r. ⌜ r ≡ record { 0 = arrayStart b len (sideOf back) } ⌝ }
 {
     if back {
@@ -125,61 +96,57 @@ pub fn array_start(len: usize, b: u64, back: bool) -> Lba
     Lba(2)
 }
 
-// Where a side's header block starts.
-pub fn header_place(len: usize, b: u64, back: bool) -> BytePlace
-    requires { ⌜ roomCheck b len ≡ 0 ⌝ }
-    ensures { λ r. ⌜ (r .0 ≡ headerPlace b len (sideOf back)) × (r .0 + b ≤ len) ⌝ }
+// Where the back table starts in an image: its array comes first.
+pub fn back_place(len: usize, b: u64) -> BytePlace
+    requires { ⌜ roomCheck b len .number ≡ 0 ⌝ }
+    ensures { λ r. ⌜ (r .0 ≡ backArray b len) × (r .0 + (b + 16384) ≤ len) ⌝ }
 {
-    units::inner::place(own_block(len, b, back), b)
+    units::inner::place(array_start(len, b, true), b)
 }
 
-// Where a side's array starts.
-pub fn array_place(len: usize, b: u64, back: bool) -> BytePlace
-    requires { ⌜ roomCheck b len ≡ 0 ⌝ }
-    ensures { λ r. ⌜ (r .0 ≡ arrayPlace b len (sideOf back)) × (r .0 + 16384 + b ≤ len) ⌝ }
+// Where the header's block starts in a copy.
+pub fn header_in(back: bool) -> BytePlace
+    ensures { λ r. ⌜ (r .0 ≡ headerIn (sideOf back)) × (r .0 ≤ 16384) ⌝ }
 {
-    units::inner::place(array_start(len, b, back), b)
+    if back {
+        return BytePlace(16384);
+    }
+    BytePlace(0)
 }
 
-// Where a slot's entry starts in a side's array.
-pub fn slot_place(len: usize, b: u64, back: bool, slot: Slot) -> BytePlace
-    requires { ⌜ (roomCheck b len ≡ 0) × (badSlot (slot .0) ≡ false) ⌝ }
-    ensures { λ r. ⌜ (r .0 ≡ arrayPlace b len (sideOf back) + 128 * (slot .0 - 1)) × (r .0 + 128 ≤ len) ⌝ }
+// Where the array starts in a copy.
+pub fn array_in(b: u64, back: bool) -> BytePlace
+    ensures { λ r. ⌜ (r .0 ≡ arrayIn b (sideOf back)) × (r .0 ≤ b) ⌝ }
 {
-    let array = array_place(len, b, back);
-    BytePlace(array.0 + 128 * units::inner::array_place(slot) as usize)
+    if back {
+        return BytePlace(0);
+    }
+    BytePlace(b as usize)
 }
 
-// The sum of the array at a place.
-pub fn array_sum<'a>(t: &'a [u32; 4096], img: &'a [u8], at: BytePlace) -> u32
+// Where a slot's entry starts in a copy.
+pub fn slot_in(b: u64, back: bool, slot: Slot) -> BytePlace
+    requires { ⌜ (b ≤ 4096) × (badSlot (slot .0) ≡ false) ⌝ }
+    ensures { λ r. ⌜ (r .0 ≡ arrayIn b (sideOf back) + 128 * (slot .0 - 1)) × (r .0 + 128 ≤ b + 16384) ⌝ }
+{
+    let k = units::inner::array_place(slot);
+    partition::inner::entry_place(array_in(b, back), k as usize)
+}
+
+// The check sum of a copy's array.
+pub fn array_sum<'a>(t: &'a [u32; 4096], copy: &'a [u8], b: u64, back: bool) -> u32
     requires { ⌜ Rows 16 (now t) ⌝ }
-    requires { ⌜ at .0 + 16384 ≤ length (now img) ⌝ }
-    ensures { λ r. ⌜ r ≡ crc (part (now (img .entry)) (at .0) 16384) ⌝ }
+    requires { ⌜ length (now copy) ≡ b + 16384 ⌝ }
+    ensures { λ r. ⌜ r ≡ crc (copyIn b (sideOf back) (now (copy .entry)) .array) ⌝ }
 {
-    let a = at.0;
-    crc32::inner::sum(t, &img[a..a + 16384])
-}
-
-// The sum of the front array.
-pub fn front_sum<'a>(t: &'a [u32; 4096], img: &'a [u8], b: u64) -> u32
-    requires { ⌜ Rows 16 (now t) ⌝ }
-    requires { ⌜ roomCheck b (length (now img)) ≡ 0 ⌝ }
-    ensures { λ r. ⌜ r ≡ crc (part (now (img .entry)) (b + b) 16384) ⌝ }
-{
-    array_sum(t, img, array_place(img.len(), b, false))
-}
-
-// n zeros, stored at a place: of an array or of an entry. The contract names them by a word that the proofs never write out.
-pub fn put_zeros(img: &mut [u8], at: BytePlace, n: usize)
-    requires { ⌜ at .0 + n ≤ length (now img) ⌝ }
-    ensures { λ _. ⌜ now (img .exit) ≡ sets (now (img .entry)) (at .0) (zeros n) ⌝ }
-{
-    units::inner::put_zeros(img, at.0, n);
+    let array = array_in(b, back);
+    let at = array.0;
+    crc32::inner::sum(t, &copy[at..at + 16384])
 }
 
 // The header of a card on one side, before it has its sums.
 pub fn card_header(len: usize, b: u64, back: bool, guid: Guid) -> Header
-    requires { ⌜ roomCheck b len ≡ 0 ⌝ }
+    requires { ⌜ roomCheck b len .number ≡ 0 ⌝ }
     ensures { λ r. ⌜ r ≡ cardHeader b len (sideOf back) guid ⌝ }
 {
     Header {
@@ -199,25 +166,33 @@ pub fn card_header(len: usize, b: u64, back: bool, guid: Guid) -> Header
     }
 }
 
-// Stores one header's block as lay would, for a GUID and the array's sum.
-pub fn put_header_block(t: &[u32; 4096], img: &mut [u8], b: u64, back: bool, guid: Guid, parts: u32)
-    requires { ⌜ Rows 16 (now t) ⌝ }
-    requires { ⌜ roomCheck b (length (now img)) ≡ 0 ⌝ }
-    ensures { λ _. ⌜ now (img .exit) ≡ sets (now (img .entry)) (headerPlace b (length (now (img .entry))) (sideOf back)) (headBlock b (length (now (img .entry))) (sideOf back) guid parts) ⌝ }
+// Stores the 128 bytes of a slot's entry in a copy.
+pub fn put_slot(copy: &mut [u8], b: u64, back: bool, slot: Slot, e: &[u8])
+    requires { ⌜ (b ≤ 4096) × (badSlot (slot .0) ≡ false) ⌝ }
+    requires { ⌜ (length (now copy) ≡ b + 16384) × (length (now e) ≡ 128) ⌝ }
+    ensures { λ _. ⌜ now (copy .exit) ≡ sets (now (copy .entry)) (arrayIn b (sideOf back) + 128 * (slot .0 - 1)) (now (e .entry)) ⌝ }
 {
-    let size = b as usize;
-    let plain = card_header(img.len(), b, back, guid);
-    let h = header::inner::with_sums(t, plain, parts);
-    let at = header_place(img.len(), b, back);
-    header::inner::put_block(img, at.0, size, h);
+    let at = slot_in(b, back, slot);
+    units::inner::put_bytes(copy, at.0, e);
 }
 
-// Stores both.
-pub fn put_header_blocks(t: &[u32; 4096], img: &mut [u8], b: u64, guid: Guid, parts: u32)
+// Stores the header's block of a copy as lay would, for a GUID and the array's sum.
+pub fn put_header(
+    t: &[u32; 4096],
+    copy: &mut [u8],
+    len: usize,
+    b: u64,
+    back: bool,
+    guid: Guid,
+    parts: u32,
+)
     requires { ⌜ Rows 16 (now t) ⌝ }
-    requires { ⌜ roomCheck b (length (now img)) ≡ 0 ⌝ }
-    ensures { λ _. ⌜ now (img .exit) ≡ sets (sets (now (img .entry)) b (headBlock b (length (now (img .entry))) Front guid parts)) (backHeader b (length (now (img .entry)))) (headBlock b (length (now (img .entry))) Back guid parts) ⌝ }
+    requires { ⌜ (roomCheck b len .number ≡ 0) × (length (now copy) ≡ b + 16384) ⌝ }
+    ensures { λ _. ⌜ now (copy .exit) ≡ sets (now (copy .entry)) (headerIn (sideOf back)) (headBlock b len (sideOf back) guid parts) ⌝ }
 {
-    put_header_block(t, img, b, false, guid, parts);
-    put_header_block(t, img, b, true, guid, parts);
+    let size = b as usize;
+    let plain = card_header(len, b, back, guid);
+    let h = header::inner::with_sums(t, plain, parts);
+    let at = header_in(back);
+    header::inner::put_block(copy, at.0, size, h);
 }

@@ -13,7 +13,8 @@ use lib.ListN.{length, take, drop, getD, set, replicate, length-append, drop-of-
 use lib.Seq.{drop-cons, drop-drop, sets, take-at, drop-at, take-nil, getD-drop}
 use borrow.Author.Tests.{lt-ltb, le-ltb, le-leb, lt-leb, eq-eqb, ne-eqb, leb-true, eqb-true, not-false}
 use Rattle.units.specs.declared.BytePlace.{BytePlace}
-use Rattle.units.specs.Answer.{Why, Answer, accepted, refused, refuse, pick}
+use Rattle.units.specs.declared.why.Why.{Why}
+use Rattle.units.specs.Answer.{Answer, accepted, refused, refuse, plain, pick}
 use Rattle.units.specs.Bytes.{part, le, num, bytes, total, laid, same, allZero}
 use Rattle.units.specs.Places.{goodSize, inside, placeOf}
 use Rattle.units.specs.Held.{Small}
@@ -44,10 +45,6 @@ inside-start at n len h =
     (λ p. le-leb at (len - n) (omega arith) ∙ sym (le-leb (at + n) len p))
     (λ p. lt-leb at (len - n) (omega arith) ∙ sym (lt-leb (at + n) len p))
 
--- a test for less against its opposite
-pub not-ltb : (a b : ℕ) → not (ltb a b) ≡ leb b a
-not-ltb a b = split b a (λ h. rw (le-ltb a b h) (sym (le-leb b a h))) (λ h. rw (lt-ltb a b h) (sym (lt-leb b a h)))
-
 -- what is past the test `!is_inside(..)`
 pub inside-yes : {r : Bool} (len at n : ℕ) → r ≡ inside len at n → not r ≡ false → at + n ≤ len
 unfolding inside
@@ -75,10 +72,10 @@ size-yes b e f = let p = size-past b e f in omega arith
 
 -- one test and its refusal: what the answer tells
 module _ {A : Type 0} (t : Bool) (k : ℕ) (v : A) where
-  pub pick-refused : {w : Why} → pick t (refuse k) (accepted v) ≡ refused w → (t ≡ true) × (record { number = k; slot = 0 } ≡ w)
+  pub pick-refused : {w : Why} → pick t (refuse k) (accepted v) ≡ refused w → (t ≡ true) × (plain k ≡ w)
   pick-refused {w} e = go t refl e
     where
-      go : (u : Bool) → t ≡ u → pick {X = Answer A} u (refuse k) (accepted v) ≡ refused w → (t ≡ true) × (record { number = k; slot = 0 } ≡ w)
+      go : (u : Bool) → t ≡ u → pick {X = Answer A} u (refuse k) (accepted v) ≡ refused w → (t ≡ true) × (plain k ≡ w)
       go true p q = (p, cc)
       go false p q = absurd (let z : _≡_ {A = ℕ} 0 1 = cc in omega arith)
 
@@ -95,7 +92,7 @@ module _ (lba b : ℕ) (good : goodSize b ≡ true) where
   unfolding placeOf
   by-product = rw good
 
-  pub place-over : {w : Why} → placeOf lba b ≡ refused w → (leb (2 ^ 64) (lba * b) ≡ true) × (record { number = 3; slot = 0 } ≡ w)
+  pub place-over : {w : Why} → placeOf lba b ≡ refused w → (leb (2 ^ 64) (lba * b) ≡ true) × (plain 3 ≡ w)
   place-over e = pick-refused (leb (2 ^ 64) (lba * b)) 3 (record { 0 = lba * b }) (sym by-product ∙ e)
 
   pub place-fits : {p : BytePlace} → placeOf lba b ≡ accepted p → (leb (2 ^ 64) (lba * b) ≡ false) × (record { 0 = lba * b } ≡ p)
@@ -177,10 +174,6 @@ pub num-part : (xs : List ℕ) (a n o m : ℕ) → o + m ≤ n → num (part xs 
 unfolding num
 num-part xs a n o m h = ap le (part-part xs a n o m h)
 
-pub num-in : (xs : List ℕ) (at : ℕ) (vs : List ℕ) (o n : ℕ) → at + length vs ≤ length xs → o + n ≤ length vs → num (sets xs at vs) (at + o) n ≡ num vs o n
-unfolding num
-num-in xs at vs o n h k = ap le (part-in xs at vs o n h k)
-
 pub num-out : (xs : List ℕ) (at : ℕ) (vs : List ℕ) (b n : ℕ) → (b + n ≤ at) ⊎ (at + length vs ≤ b) → num (sets xs at vs) b n ≡ num xs b n
 unfolding num
 num-out xs at vs b n o = ap le (part-out xs at vs b n o)
@@ -204,9 +197,6 @@ num-here n x r h = rw (take-at (bytes n x) r n (length-bytes n x)) (le-bytes n x
 
 pub num-next : (n x : ℕ) (r : List ℕ) (j m : ℕ) → num (bytes n x ++ r) (n + j) m ≡ num r j m
 num-next n x r j m = num-drop (bytes n x ++ r) n j m ∙ rw (drop-at (bytes n x) r n (length-bytes n x))
-
-pub getD-next : (n x : ℕ) (r : List ℕ) (j : ℕ) → getD (bytes n x ++ r) (n + j) 0 ≡ getD r j 0
-getD-next n x r j = sym (getD-drop n (bytes n x ++ r) j 0) ∙ rw (drop-at (bytes n x) r n (length-bytes n x))
 
 pub field-here : (xs : List ℕ) (k n x : ℕ) (r : List ℕ) → drop k xs ≡ bytes n x ++ r → x < 256 ^ n → num xs k n ≡ x
 unfolding num
@@ -264,16 +254,6 @@ small-eight p q r s t u v w (suc (suc (suc (suc (suc zero))))) = u
 small-eight p q r s t u v w (suc (suc (suc (suc (suc (suc zero)))))) = v
 small-eight p q r s t u v w (suc (suc (suc (suc (suc (suc (suc zero))))))) = w
 small-eight p q r s t u v w (suc (suc (suc (suc (suc (suc (suc (suc k)))))))) = omega arith
-
-le-fits : (n : ℕ) (l : List ℕ) → Small l → le (take n l) < 256 ^ n
-unfolding le
-le-fits zero l h = omega arith
-le-fits (suc n) [] h = rw (pow-suc 256 n) (omega (arith, rw take-nil at (le-fits n [] h)))
-le-fits (suc n) (x ∷ l) h = rw (pow-suc 256 n) (omega (arith, h 0, le-fits n l (λ k. h (suc k))))
-
-pub num-fits : (xs : List ℕ) (at n : ℕ) → Small xs → num xs at n < 256 ^ n
-unfolding num
-num-fits xs at n h = le-fits n (drop at xs) (small-drop xs at h)
 
 bytes-le : (l : List ℕ) → Small l → bytes (length l) (le l) ≡ l
 unfolding bytes le

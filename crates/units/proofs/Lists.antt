@@ -6,8 +6,8 @@ use mathlib.Core.List.{List, [], _∷_, _++_, append-nil, append-assoc}
 use Prim.Native.Nat.{ℕ, zero, suc, _+_, _-_, _≤_, _<_}
 use native.Mathlib.Nat.{add-zero, zero-add, sub-zero, suc-add, add-suc}
 use native.Mathlib.Omega.{arith}
-use lib.ListN.{length, take, drop, getD, set, replicate, length-set, length-drop, take-append-drop, drop-of-length-le, List·getD-append}
-use lib.Seq.{drop-cons, set-append-left, set-set, set-comm, drop-drop, sets, sets-eq, take-at, drop-at, take-nil, take-all, take-add, take-take, take-append-le, drop-append-le, getD-take, getD-drop, getD-set-other, length-take-le, drop-set-lt, drop-set-add, take-set-le}
+use lib.ListN.{length, take, drop, getD, set, replicate, length-set, length-drop, drop-of-length-le, List·getD-append}
+use lib.Seq.{drop-cons, set-append-left, set-comm, drop-drop, sets, sets-eq, take-at, drop-at, take-nil, take-all, take-add, take-take, take-append-le, drop-append-le, getD-take, getD-drop, getD-set-other, length-take-le, drop-set-lt, drop-set-add, take-set-le}
 use Rattle.units.specs.Bytes.{part}
 
 -- ---- parts
@@ -123,13 +123,6 @@ sets-comm xs a (y ∷ ys) b zs (inl h) =
 sets-comm xs a (y ∷ ys) b zs (inr h) =
     sets-comm (set xs a y) (suc a) ys b zs (inr (omega arith)) ∙ rw (set-sets xs a y b zs (inr (omega arith)))
 
--- a store covers one before it at the same place that is no longer
-pub sets-over : (xs : List ℕ) (a : ℕ) (ys zs : List ℕ) → length ys ≤ length zs → sets (sets xs a ys) a zs ≡ sets xs a zs
-sets-over xs a [] zs h = refl
-sets-over xs a (y ∷ ys) [] h = absurd (omega arith)
-sets-over xs a (y ∷ ys) (z ∷ zs) h =
-    rw (← set-sets (set xs a y) a z (suc a) ys (inl (omega arith)), set-set xs a y z) (sets-over (set xs a z) (suc a) ys zs (omega arith))
-
 -- a store, and a second that begins where it ends, is one store
 pub sets-then : (l : List ℕ) (at : ℕ) (vs : List ℕ) (j : ℕ) (ws : List ℕ) → at + length vs ≡ j → sets (sets l at vs) j ws ≡ sets l at (vs ++ ws)
 sets-then l at [] j ws e = rw (sym e ∙ add-zero at)
@@ -145,13 +138,6 @@ sets-all l vs e =
     let f : 0 + length vs ≤ length l = omega arith in
     let g : length l ≤ 0 + length vs = omega arith in
     sets-eq vs l 0 f ∙ rw (drop-of-length-le l g) (append-nil vs)
-
--- what stands at a place, stored there, changes nothing
-pub sets-part : (xs : List ℕ) (at n : ℕ) → at + n ≤ length xs → sets xs at (part xs at n) ≡ xs
-sets-part xs at n h =
-    let l : length (part xs at n) ≡ n = length-part xs at n h in
-    let f : at + length (part xs at n) ≤ length xs = omega arith in
-    rw (sets-eq (part xs at n) xs at f, l, append-assoc, ← drop-drop n at xs, take-append-drop n (drop at xs), take-append-drop at xs)
 
 -- ---- a loop that stores: the next element, and then what is left, is all
 
@@ -210,15 +196,3 @@ sets-left p q j [] h = refl
 sets-left p q j (v ∷ vs) h =
     let l : j < length p = omega arith in
     rw (set-append-left p q j v l) (sets-left (set p j v) q (suc j) vs (simp length-set (omega arith)))
-
--- a store into the k elements from place a on, put back, is the store into the whole
-pub sets-mid : (xs : List ℕ) (a k j : ℕ) (vs : List ℕ) → a + k ≤ length xs → j + length vs ≤ k
-    → take a xs ++ (sets (take k (drop a xs)) j vs ++ drop k (drop a xs)) ≡ sets xs (a + j) vs
-sets-mid xs a k j vs h f =
-    let la : length (take a xs) ≡ a = length-take-le a xs (omega arith) in
-    let lk : length (take k (drop a xs)) ≡ k = length-take-le k (drop a xs) (simp length-drop (omega arith)) in
-    let e : sets (take a xs ++ (take k (drop a xs) ++ drop k (drop a xs))) (a + j) vs ≡ take a xs ++ sets (take k (drop a xs) ++ drop k (drop a xs)) j vs =
-    rw la at (sets-right (take a xs) (take k (drop a xs) ++ drop k (drop a xs)) j vs) in
-    let g : sets (take k (drop a xs) ++ drop k (drop a xs)) j vs ≡ sets (take k (drop a xs)) j vs ++ drop k (drop a xs) =
-    sets-left (take k (drop a xs)) (drop k (drop a xs)) j vs (omega arith) in
-    ap (λ (l : List ℕ). take a xs ++ l) (sym g) ∙ sym e ∙ rw (take-append-drop k (drop a xs), take-append-drop a xs)

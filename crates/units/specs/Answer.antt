@@ -3,12 +3,19 @@
 use mathlib.Core.Path.{_≡_, sym, ap, _∙_}
 use mathlib.Core.Bool.{Bool, true, false}
 use mathlib.Core.List.{List}
-use Prim.Native.Nat.{ℕ}
+use Prim.Native.Nat.{ℕ, zero, suc}
+use Rattle.units.specs.declared.why.Why.{Why}
 
--- why a call refuses: document 01's number, and the slot that 22 carries; the slot of any other number is 0
-pub record Why : Type 0 where
-  pub number : ℕ
-  pub slot : ℕ
+-- a refusal by a number that names nothing, and 0, which refuses nothing
+abbrev pub plain : ℕ → Why
+plain n = record { number = n; slot = record { 0 = 0 }; place = 0 }
+
+abbrev pub fine : Why
+fine = plain 0
+
+-- with the slot that it names
+abbrev pub ofSlot : ℕ → ℕ → Why
+ofSlot n s = record { number = n; slot = record { 0 = s }; place = 0 }
 
 -- accepted with a value, which is document 01's number 0, or refused with no value
 pub data Answer (A : Type 0) : Type 0 where
@@ -20,9 +27,9 @@ abbrev pub numberOf : {A : Type 0} → Answer A → ℕ
 numberOf (accepted x) = 0
 numberOf (refused w) = w .number
 
--- refused by a number that carries no slot
+-- refused by a number that names nothing
 abbrev pub refuse : {A : Type 0} → ℕ → Answer A
-refuse n = refused (record { number = n; slot = 0 })
+refuse n = refused (plain n)
 
 -- the first where the test holds, else the second: checks in their order
 abbrev pub pick {ℓ} : {X : Type ℓ} → Bool → X → X → X
@@ -44,6 +51,24 @@ unfoldable pub beside : {A : Type 0} → A → Answer A → Beside A
 beside other (accepted x) = record { verdict = accepted tt; value = x }
 beside other (refused w) = record { verdict = refused w; value = other }
 
+-- one check: its refusal where the test says so
+abbrev pub when : Bool → Why → Why
+when true w = w
+when false w = fine
+
+-- by a number: the first where it is 0, else the second
+abbrev pub ifZero {ℓ} : {X : Type ℓ} → ℕ → X → X → X
+ifZero zero a b = a
+ifZero (suc k) a b = b
+
+-- the first check's refusal, else the second's
+unfoldable pub orElse : Why → Why → Why
+orElse a b = ifZero (a .number) b a
+
+-- what a refusal found, or none, makes of a call that would answer v
+unfoldable pub judged : {A : Type 0} → Why → A → Answer A
+judged w v = ifZero (w .number) (accepted v) (refused w)
+
 -- an answer, and what the lent slice holds at the end
 pub record Outcome (A : Type 0) : Type 0 where
   pub answer : A
@@ -51,6 +76,10 @@ pub record Outcome (A : Type 0) : Type 0 where
 
 abbrev pub gives : {A : Type 0} → A → List ℕ → Outcome A
 gives r i = record { answer = r; image = i }
+
+-- where nothing refuses the slice is the new one, else the old one
+unfoldable pub settle : {A : Type 0} → Why → A → List ℕ → List ℕ → Outcome (Answer A)
+settle w v old new = gives (judged w v) (ifZero (w .number) new old)
 
 -- a call ends in an outcome: its answer and the slice at exit are those of the outcome, which is a function of what it was given
 pub record Ends {A : Type 0} (o : Outcome A) (r : A) (img : List ℕ) : Type 0 where

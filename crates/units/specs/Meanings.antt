@@ -22,12 +22,17 @@ use Rattle.units.specs.declared.GuidRead.the-variants as guid
 use Rattle.units.specs.declared.Stored.{Stored}
 use Rattle.units.specs.declared.Stored.the-variants as stored
 use Rattle.units.specs.declared.Refusal.{Refusal}
-use Rattle.units.specs.Answer.{Answer, accepted, refused, Beside}
-use Rattle.units.specs.Refusals.{refusedBy, named, back}
+use Rattle.units.specs.declared.why.Why.{Why}
+use Rattle.units.specs.Answer.{Answer, accepted, refused, ifZero, Beside}
+use Rattle.units.specs.Refusals.{refusedBy, refusalOf, back}
 
 abbrev pub verdictMeans : Verdict → Answer Unit
 verdictMeans verdict.Accepted = accepted tt
 verdictMeans (verdict.Refused w) = refusedBy w
+
+-- the verdict that a refusal as a value stands for
+unfoldable pub verdictOf : Why → Verdict
+verdictOf w = ifZero (w .number) verdict.Accepted (verdict.Refused (refusalOf w))
 
 abbrev pub placedMeans : Placed → Answer BytePlace
 placedMeans (placed.At p) = accepted p
@@ -61,7 +66,7 @@ storedMeans (stored.Refused w) = refusedBy w
 -- the answer of the code that a meaning comes from, given the two ways to make one
 abbrev pub madeBy : {A E : Type 0} → (A → E) → (Refusal → E) → Answer A → E
 madeBy f g (accepted a) = f a
-madeBy f g (refused y) = g (named (y .number) (y .slot))
+madeBy f g (refused y) = g (refusalOf y)
 
 -- where each answer comes back from its meaning, two that mean the same are the same
 pub one-meaning : {A E : Type 0} (means : E → Answer A) (from : Answer A → E) → ((r : E) → from (means r) ≡ r) → (r s : E) → means r ≡ means s → r ≡ s

@@ -22,12 +22,15 @@ pub fn place(block: Lba, b: u64) -> BytePlace
     BytePlace((block.0 * b) as usize)
 }
 
-// The array place of a slot, and the slot of an array place: the one way from either to the other.
+// The array place of a slot, and the slot of an array place: the one way from either to the other. Slot 0, which is nobody's, is read as slot 1, so that a place is always one of the array.
 pub fn array_place(slot: Slot) -> u32
-    requires { ⌜ 1 ≤ slot .0 ⌝ }
     ensures { λ r. ⌜ r ≡ slot .0 - 1 ⌝ }
 {
-    slot.0 - 1
+    let s = slot.0;
+    if s == 0 {
+        return 0;
+    }
+    s - 1
 }
 
 pub fn slot_at(place: u32) -> Slot

@@ -1,10 +1,11 @@
-// The ground of the card table: numbers that are kept apart, document 01's refusals, little-endian fields, and the GUID.
+// The ground of the card table: numbers that are kept apart, the refusals of documents 01 and 02, little-endian fields, and the GUID.
 // Here stand the public calls: each takes every slice and every number. `inner` has the leaves for our own crates.
 pub mod inner;
+pub mod why; // why.rt: a refusal as a value that the card's tests hand on
 
 ghost use mathlib.Core.Path.{_≡_};
 ghost use Rattle.units.specs.Answer.{Ends};
-ghost use Rattle.units.specs.Refusals.{number};
+ghost use Rattle.units.specs.Refusals.{number, laterNumber};
 ghost use Rattle.units.specs.Places.{goodSize, inside, placeOf, placeAfter, blockOf, arrayPlaceOf, slotOf};
 ghost use Rattle.units.specs.Numbers.{widthOf, bytesIn, valueIn, numberRead, numberStored};
 ghost use Rattle.units.specs.Guids.{guidRead, guidStored, isNil, nilGuid};
@@ -20,7 +21,7 @@ pub struct BytePlace(pub usize);
 // An entry's slot, counted from 1. Its array place counts from 0.
 pub struct Slot(pub u32);
 
-// Why a call refuses, by document 01's names. Overlap carries the lowest slot that shares a block.
+// Why a call refuses, by the names of documents 01 and 02. Overlap carries the lowest other slot that shares a block, TwinGuid the lowest other slot with that GUID.
 pub enum Refusal {
     BadBlockSize,
     Short,
@@ -46,10 +47,47 @@ pub enum Refusal {
     Overlap(Slot),
     EmptySlot,
     PastPartition,
+    TwinGuid(Slot),
+    WrongStage,
+    NoGoodCopy,
+    ReservedFlag,
+    BadHeaderSize,
+    DirtyBlock,
+    WrongPlace,
+    WindowLength,
+    TableFull,
+    BadMark,
+    UnknownVersion,
+    BadDate,
+    TwoDates,
+    EmptyList,
 }
 
 impl Refusal {
-    // The number that document 01 gives the refusal.
+    // The number of a refusal that document 02 brings; 0 for one of document 01's.
+    fn later_number(self) -> u32
+        ensures { λ r. ⌜ r ≡ laterNumber self ⌝ }
+    {
+        match self {
+            Refusal::TwinGuid(_s) => 25,
+            Refusal::WrongStage => 26,
+            Refusal::NoGoodCopy => 27,
+            Refusal::ReservedFlag => 28,
+            Refusal::BadHeaderSize => 29,
+            Refusal::DirtyBlock => 30,
+            Refusal::WrongPlace => 31,
+            Refusal::WindowLength => 32,
+            Refusal::TableFull => 33,
+            Refusal::BadMark => 34,
+            Refusal::UnknownVersion => 35,
+            Refusal::BadDate => 36,
+            Refusal::TwoDates => 37,
+            Refusal::EmptyList => 38,
+            _ => 0,
+        }
+    }
+
+    // The number that document 01 or 02 gives the refusal.
     pub fn number(self) -> u32
         ensures { λ r. ⌜ r ≡ number self ⌝ }
     {
@@ -78,6 +116,7 @@ impl Refusal {
             Refusal::Overlap(_s) => 22,
             Refusal::EmptySlot => 23,
             Refusal::PastPartition => 24,
+            _ => self.later_number(),
         }
     }
 }

@@ -36,7 +36,6 @@ macro_rules! functions {
 
 // C's bool is a byte here, so that no value of it could be undefined: 0 or 1.
 const _: () = assert!(size_of::<bool>() == size_of::<u8>());
-const _: () = assert!(size_of::<usize>() == 8, "libcard is for x86-64");
 
 structs! {
     gpt_guid 16 { 0 time_low: u32, 4 time_mid: u16, 6 time_high: u16, 8 tail: [u8; 8] }
@@ -185,10 +184,10 @@ mod tests {
     }
 
     /// What the header declares and asserts, in the same form. Its declarations begin at a line's first letter, a struct's fields behind four spaces.
-    fn stated() -> Vec<String> {
+    fn stated(header: &str) -> Vec<String> {
         let mut lines = Vec::new();
         let mut of = "";
-        for line in include_str!("../../../include/card.h").lines() {
+        for line in header.lines() {
             let inside = |from: &str, to: &str| line.strip_prefix(from).and_then(|rest| rest.strip_suffix(to));
             if let Some(name) = inside("typedef struct ", " {") {
                 of = name;
@@ -212,7 +211,8 @@ mod tests {
     /// Neither this module nor the header has a struct, a field, a number, a type or a function that the other has not.
     #[test]
     fn declarations_are_those_of_the_header() {
-        let (here, header) = (declared(), stated());
+        let Some(header) = crate::repository::header() else { return };
+        let (here, header) = (declared(), stated(&header));
         let only = |these: &[String], those: &[String]| these.iter().filter(|line| !those.contains(line)).cloned().collect::<Vec<_>>();
         assert_eq!((only(&here, &header), only(&header, &here)), (vec![], vec![]), "only here, and only in include/card.h");
         assert_eq!(here.len(), header.len());

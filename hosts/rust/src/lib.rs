@@ -15,7 +15,7 @@
 //!     println!("{} {} {}", entry.slot, entry.record.first, entry.record.name);
 //! }
 //! assert_eq!(card.get(1)?, Some(map));
-//! assert_eq!(card.put(2, &map).unwrap_err().to_string(), "refused 22, Overlap: a block that slot 1 has");
+//! assert_eq!(card.put(2, &map).unwrap_err().to_string(), "refused 22, Overlap: a block that another slot has (slot 1)");
 //! # Ok(())
 //! # }
 //! ```
@@ -28,11 +28,17 @@
 //! writes, from the folder that the environment names in `CARD_LIB_DIR`, or else from the repository's `target/lib`.
 #![deny(missing_docs, clippy::undocumented_unsafe_blocks)]
 
+#[cfg(not(all(target_arch = "x86_64", target_pointer_width = "64")))]
+compile_error!("libcard is for x86-64");
+
 mod calls;
 pub mod ffi;
 mod guid;
 mod record;
 mod refusal;
+#[cfg(test)]
+#[path = "../tests/repository/mod.rs"]
+mod repository;
 
 pub use calls::{check, get, list, BlockSize, Card, Listing, SLOTS};
 pub use guid::{Guid, GuidError};

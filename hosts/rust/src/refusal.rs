@@ -1,10 +1,10 @@
 //! The numbers by which a call is refused, with their names and meanings.
 use std::{error, fmt};
 
-/// Declares the refusals of the table once: their numbers, names and meanings. 22 stands beside them, since it carries a slot.
+/// Declares the refusals of the table once: their numbers, names and meanings. 22 and 25 stand beside them, since they carry a slot.
 macro_rules! refusals {
     ($($number:literal $name:ident: $meaning:literal,)*) => {
-        /// Why a call was refused. A refused call changed no byte of the image.
+        /// Why a call was refused. A refused call changed no byte of the image. No call gives a number from 25 on yet: each comes with its change request.
         #[derive(Clone, Copy, Debug, PartialEq, Eq, Hash)]
         pub enum Refusal {
             $(#[doc = concat!(stringify!($number), ": ", $meaning, ".")] $name,)*
@@ -13,14 +13,20 @@ macro_rules! refusals {
                 /// The lowest slot that has such a block.
                 slot: u32,
             },
+            /// 25: a partition GUID that another slot has.
+            TwinGuid {
+                /// The lowest slot that has it.
+                slot: u32,
+            },
         }
 
         impl Refusal {
-            /// The number that the library gives, from 1 to 24.
+            /// The number that the library gives, from 1 to 38.
             pub const fn number(self) -> u32 {
                 match self {
                     $(Refusal::$name => $number,)*
                     Refusal::Overlap { .. } => 22,
+                    Refusal::TwinGuid { .. } => 25,
                 }
             }
 
@@ -29,14 +35,16 @@ macro_rules! refusals {
                 match self {
                     $(Refusal::$name => stringify!($name),)*
                     Refusal::Overlap { .. } => "Overlap",
+                    Refusal::TwinGuid { .. } => "TwinGuid",
                 }
             }
 
-            /// The refusal of a number. The slot counts for 22 alone; 0 and what is above 24 are no refusals.
+            /// The refusal of a number. The slot counts for 22 and 25 alone; 0 and what is above 38 are no refusals.
             pub const fn from_number(number: u32, slot: u32) -> Option<Refusal> {
                 match number {
                     $($number => Some(Refusal::$name),)*
                     22 => Some(Refusal::Overlap { slot }),
+                    25 => Some(Refusal::TwinGuid { slot }),
                     _ => None,
                 }
             }
@@ -48,7 +56,8 @@ macro_rules! refusals {
                 write!(f, "refused {}, {}: ", self.number(), self.name())?;
                 match self {
                     $(Refusal::$name => f.write_str($meaning),)*
-                    Refusal::Overlap { slot } => write!(f, "a block that slot {slot} has"),
+                    Refusal::Overlap { slot } => write!(f, "a block that another slot has (slot {slot})"),
+                    Refusal::TwinGuid { slot } => write!(f, "a partition GUID that another slot has (slot {slot})"),
                 }
             }
         }
@@ -60,8 +69,8 @@ refusals! {
     2 Short: "the bytes to read or write are not all inside the slice",
     3 Overflow: "a product or sum passes its width",
     4 InvalidGptSignature: "the header does not begin with EFI PART",
-    5 InvalidCRC32Checksum: "the header's check sum is another",
-    6 PartsCrc: "the entry array's check sum is another",
+    5 InvalidCRC32Checksum: "the header's check sum does not match",
+    6 PartsCrc: "the entry array's check sum does not match",
     7 BadEntrySize: "an entry size that cannot be read or written",
     8 ToSmallForBackup: "the image is shorter than three blocks",
     9 MissingBackupLba: "the backup comes before the primary",
@@ -79,6 +88,19 @@ refusals! {
     21 OutsideUsable: "a block outside the usable ones",
     23 EmptySlot: "the slot is not used",
     24 PastPartition: "the bytes pass the partition's end",
+    26 WrongStage: "the stage is not the next one of this update",
+    27 NoGoodCopy: "neither table of the card can be read",
+    28 ReservedFlag: "a flag that UEFI keeps reserved",
+    29 BadHeaderSize: "the header's stated size is below 92 or above the block size",
+    30 DirtyBlock: "the header's block has other bytes than zero after the header",
+    31 WrongPlace: "the header names another block than the one it was read from",
+    32 WindowLength: "a window is not as long as the card asks for",
+    33 TableFull: "all 128 slots are used",
+    34 BadMark: "the map does not begin with the mark FBM",
+    35 UnknownVersion: "the label's version is not 1",
+    36 BadDate: "the label's month or day does not exist",
+    37 TwoDates: "the maps have two dates or two style revisions",
+    38 EmptyList: "no slot was named",
 }
 
 impl error::Error for Refusal {}
@@ -99,10 +121,10 @@ mod tests {
     /// The numbers, names and meanings are those of the C header's table, and there are no others.
     #[test]
     fn refusals_are_those_of_the_header() {
-        let header = include_str!("../../../include/card.h");
+        let Some(header) = crate::repository::header() else { return };
         let lines: Vec<&str> = header.lines().filter(|line| line.starts_with("    CARD_") && line.contains(" = ")).collect();
-        assert_eq!(lines.len(), 25);
-        assert_eq!((Refusal::from_number(0, 0), Refusal::from_number(25, 0)), (None, None));
+        assert_eq!(lines.len(), 39);
+        assert_eq!((Refusal::from_number(0, 0), Refusal::from_number(39, 0)), (None, None));
         for (number, line) in (1..).zip(&lines[1..]) {
             let refusal = Refusal::from_number(number, 7).unwrap();
             let (name, rest) = line.trim().split_once(" = ").unwrap();
@@ -113,7 +135,8 @@ mod tests {
             assert_eq!(refusal.number(), number);
             let said = refusal.to_string();
             match refusal {
-                Refusal::Overlap { slot } => assert_eq!((slot, said.as_str()), (7, "refused 22, Overlap: a block that slot 7 has")),
+                Refusal::Overlap { slot } => assert_eq!((slot, said.as_str()), (7, "refused 22, Overlap: a block that another slot has (slot 7)")),
+                Refusal::TwinGuid { slot } => assert_eq!((slot, said.as_str()), (7, "refused 25, TwinGuid: a partition GUID that another slot has (slot 7)")),
                 _ => assert_eq!(said, format!("refused {number}, {}: {meaning}", refusal.name())),
             }
         }

@@ -35,8 +35,8 @@ text-requires c κs = search needs
 
 print-slots-requires : tie.Need-print-slots-requires
 print-slots-requires c κs =
-    let a = c .before .before .before .before .before .before .args in
-    check-room 512 (a .img .now) (sym (c .before .before .before .before .check .ensures) ∙ ap verdictMeans (c .before .before .enum-told .given .1))
+    let a = c .before .before .before .before .before .before .before .before .args in
+    check-room 512 (a .img .now) (sym (c .before .before .before .before .before .before .check .ensures) ∙ ap verdictMeans (c .before .before .before .before .enum-told .given .1))
 
 slice-aggregate-say-2 : tie.Need-slice-aggregate-say-2
 slice-aggregate-say-2 c = search needs

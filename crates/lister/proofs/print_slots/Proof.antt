@@ -9,17 +9,17 @@ use borrow.Author.Needs.{needs}
 use Rattle.partition.specs.Array.{present, presentFrom}
 use Rattle.partition.proofs.Laws.{from-yes, from-no, from-none}
 use Rattle.tables.specs.Lens.{tables}
-use Rattle.tables.specs.Listing.{presentSlots}
+use Rattle.listing.specs.Listing.{presentSlots}
 use Rattle.listing.proofs.Ways.{all-left}
 use Rattle.lister.proofs.print_slots.Statement.{statement}
 use Rattle.lister.proofs.print_slots.Tie as tie
 
 abbrev Inv-loop : tie.InvT-loop
-Inv-loop img lines₀ place₀ lines place =
+Inv-loop img ok₀ lines₀ place₀ ok lines place =
     (place ≤ 128) × (lines ≤ place) × (lines + length (presentFrom (tables 512 img .front .array) 0 place (128 - place)) ≡ length (presentSlots (tables 512 img)))
 
 abbrev μ-loop : tie.MeasureT-loop
-μ-loop img lines₀ place₀ lines place = 128 - place
+μ-loop img ok₀ lines₀ place₀ ok lines place = 128 - place
 
 loop-holds : tie.Need-loop-holds Inv-loop μ-loop
 loop-holds c = (omega arith, omega arith, omega (arith, ap length (all-left 512 (c .before .args .img .now))))
@@ -29,8 +29,8 @@ slot-at-requires c κs = search needs
 
 print-slot-requires : tie.Need-print-slot-requires Inv-loop μ-loop
 print-slot-requires c κs =
-    let p = c .before .before .loop .place in
-    (c .before .before .before .before .pre, rw (c .slot-at .ensures, le-ltb (p + 1) 1 (omega arith), le-ltb 128 (p + 1) (omega arith)))
+    let p = c .before .before .before .loop .place in
+    (c .before .before .before .before .before .pre, rw (c .before .slot-at .ensures, le-ltb (p + 1) 1 (omega arith), le-ltb 128 (p + 1) (omega arith)))
 
 add-lines : tie.Need-add-lines Inv-loop μ-loop
 add-lines c = omega arith
@@ -43,10 +43,10 @@ loop-less c = omega arith
 
 loop-again : tie.Need-loop-again Inv-loop μ-loop
 loop-again c =
-    let l = c .before .before .before .before .loop in
-    let xs = c .before .before .before .before .before .before .args .img .now in
+    let l = c .before .before .before .before .before .loop in
+    let xs = c .before .before .before .before .before .before .before .args .img .now in
     let arr = tables 512 xs .front .array in
-    let k : c .before .before .slot-at .result .0 - 1 ≡ l .place = rw (c .before .before .slot-at .ensures) (omega arith) in
+    let k : c .before .before .before .slot-at .result .0 - 1 ≡ l .place = rw (c .before .before .before .slot-at .ensures) (omega arith) in
     let e = ap (present arr 0) (sym k) ∙ sym (c .before .print-slot .ensures) in
     ⊎-elim
     (λ w. (

@@ -6,8 +6,8 @@ use Rattle.partition.proofs.Ways.{array-tells, after-refused, after-non
 use Rattle.partition.proofs.next_partition.Statement.{statement}
 use Rattle.partition.proofs.next_partition.Tie as tie
 
-array-place-requires : tie.Need-array-place-requires
-array-place-requires c κs = search needs
+find-array-requires : tie.Need-find-array-requires
+find-array-requires c κs = search needs
 
 enum-known-w : tie.Need-enum-known-w
 enum-known-w c = search needs
@@ -16,22 +16,22 @@ enum-known-at : tie.Need-enum-known-at
 enum-known-at c = search needs
 
 next-present-requires : tie.Need-next-present-requires
-next-present-requires c κs = array-tells _ _ _ _ (sym (c .before .before .before .array-place .ensures) ∙ ap placedMeans (c .before .at .given .1)) .within
+next-present-requires c κs = array-tells _ _ _ _ (sym (c .before .before .before .find-array .ensures) ∙ ap placedMeans (c .before .at .given .1)) .within
 
 returns : tie.Need-returns
-returns c = after-none _ _ _ _ (sym (c .before .before .before .before .before .array-place .ensures) ∙ ap placedMeans (c .before .before .before .at .given .1)) (c .before .next-present .ensures) (c .if1 .taken)
+returns c = after-none _ _ _ _ (sym (c .before .before .before .before .before .before .find-array .ensures) ∙ ap placedMeans (c .before .before .before .before .at .given .1)) (c .before .before .next-present .ensures) (c .if1 .taken)
 
 returns-2 : tie.Need-returns-2
-returns-2 c = after-refused _ _ _ _ (sym (c .before .before .before .array-place .ensures) ∙ ap placedMeans (c .before .w .given .1))
+returns-2 c = after-refused _ _ _ _ (sym (c .before .before .before .find-array .ensures) ∙ ap placedMeans (c .before .w .given .1))
 
 returns-3 : tie.Need-returns-3
-returns-3 c = after-some _ _ _ _ (sym (c .before .before .before .before .before .array-place .ensures) ∙ ap placedMeans (c .before .before .before .at .given .1)) (c .before .next-present .ensures) (c .if1 .left)
+returns-3 c = after-some _ _ _ _ (sym (c .before .before .before .before .before .before .find-array .ensures) ∙ ap placedMeans (c .before .before .before .before .at .given .1)) (c .before .before .next-present .ensures) (c .if1 .left)
 
 pub next-partition-spec : {M : Type 1} → statement M
 next-partition-spec =
     tie.close
     (tie.spec
-    array-place-requires
+    find-array-requires
     enum-known-w
     enum-known-at
     next-present-requires

@@ -1,17 +1,14 @@
--- `card::changing::sum_with` meets its contract: the front header's sum is that of the front array, and the slot's old bytes are in the image. Assumes nothing.
-use mathlib.Core.Path.{refl, ap, _∙_}
-use Prim.Native.Nat.{ℕ, _+_}
+-- `card::changing::sum_with` meets its contract. Assumes nothing.
 use native.Mathlib.Omega.{arith}
 use borrow.Author.Needs.{needs}
-use Rattle.units.specs.Bytes.{num}
+use Rattle.tables.specs.Lens.{sideOf}
 use Rattle.tables.proofs.Good.{room-ok}
-use Rattle.tables.proofs.Changes.{slot-ok}
-use Rattle.card.proofs.ChangeWays.{check-has-room, sum-held, sum-changed}
+use Rattle.card.proofs.CopyLaws.{sum-held, sum-changed}
 use Rattle.card.proofs.changing.sum_with.Statement.{statement}
 use Rattle.card.proofs.changing.sum_with.Tie as tie
 
-header-place-requires : tie.Need-header-place-requires
-header-place-requires c κs = let s = c .before .before in check-has-room (s .args .b) (s .args .img .now) (s .pre .1 .0)
+header-in-requires : tie.Need-header-in-requires
+header-in-requires c κs = search needs
 
 add-u32-at : tie.Need-add-u32-at
 add-u32-at c = search needs
@@ -19,20 +16,14 @@ add-u32-at c = search needs
 u32-at-requires : tie.Need-u32-at-requires
 u32-at-requires c κs =
     let s = c .before .before .before .before in
-    let r = room-ok _ _ (check-has-room (s .args .b) (s .args .img .now) (s .pre .1 .0)) in
-    omega (arith, r .least, c .before .header-place .ensures .1)
+    let r = room-ok _ _ (s .pre .1 .0 .0) in
+    omega (arith, r .least, c .before .header-in .ensures .1, s .pre .1 .0 .1)
 
-slot-place-requires : tie.Need-slot-place-requires
-slot-place-requires c κs = let s = c .before .before .before .before .before in (check-has-room (s .args .b) (s .args .img .now) (s .pre .1 .0), s .pre .1 .1 .0)
+slot-in-requires : tie.Need-slot-in-requires
+slot-in-requires c κs = let s = c .before .before .before .before .before in let r = room-ok _ _ (s .pre .1 .0 .0) in (r .most, s .pre .1 .1 .1 .0)
 
-cast-after : tie.Need-cast-after
-cast-after c = search needs
-
-sub-after : tie.Need-sub-after
-sub-after c = let s = c .before .before .before .before .before .before .before in omega (arith, slot-ok (s .args .slot .0) (s .pre .1 .1 .0) .1)
-
-mul-after : tie.Need-mul-after
-mul-after c = search needs
+bytes-after-requires : tie.Need-bytes-after-requires
+bytes-after-requires c κs = c .before .before .before .before .before .before .pre .1 .1 .1 .0
 
 add-sum-after : tie.Need-add-sum-after
 add-sum-after c = search needs
@@ -44,34 +35,21 @@ part-sum-after-start : tie.Need-part-sum-after-start
 part-sum-after-start c = search needs
 
 part-sum-after-end : tie.Need-part-sum-after-end
-part-sum-after-end c = search needs
+part-sum-after-end c = let s = c .before .before .before .before .before .before .before in omega (arith, c .before .slot-in .ensures .1, s .pre .1 .0 .1)
 
 sum-after-requires : tie.Need-sum-after-requires
 sum-after-requires c κs = search needs
 
 returns : tie.Need-returns
 returns c =
-    let s = c .before .before .before .before .before .before .before .before .before in
+    let p = c .before .before .before in
+    let k = p .before .before .before in
+    let s = k .before .before .before in
     let a = s .args in
-    let xs = a .img .now in
-    sum-changed (a .b) xs (a .e .now) (a .slot .0) (s .pre .1 .0) (s .pre .1 .1 .0) (s .pre .1 .1 .1)
-    (sum-held (a .b) xs (s .pre .1 .0) (λ k. omega (arith, c .before .before .before .before .before .before .before .before .shared-slice-known .given k)) (c .before .before .before .before .u32-at .ensures ∙ ap (λ (at : ℕ). num xs (at + 88) 4) (c .before .before .before .before .before .before .header-place .ensures .0)))
-    (c .before .before .before .slot-place .ensures .0) refl (c .sum-after .ensures)
+    let r = room-ok _ _ (s .pre .1 .0 .0) in
+    sum-changed (a .b) (sideOf (a .back)) (a .copy .now) (a .e .now) (a .slot .0) (s .pre .1 .1 .1 .0) (s .pre .1 .0 .1) (s .pre .1 .1 .1 .1)
+    (sum-held (a .b) (a .len) (sideOf (a .back)) (a .copy .now) (k .header-in .ensures .0) (omega (arith, r .least)) (s .pre .1 .1 .0) (p .before .u32-at .ensures))
+    (p .slot-in .ensures .0) (c .before .before .bytes-after .ensures) (c .sum-after .ensures)
 
 pub sum-with-spec : {M : Type 1} → statement M
-sum-with-spec =
-    tie.close
-    (tie.spec
-    header-place-requires
-    add-u32-at
-    u32-at-requires
-    slot-place-requires
-    cast-after
-    sub-after
-    mul-after
-    add-sum-after
-    sub-sum-after
-    part-sum-after-start
-    part-sum-after-end
-    sum-after-requires
-    returns)
+sum-with-spec = tie.close (tie.spec header-in-requires add-u32-at u32-at-requires slot-in-requires bytes-after-requires add-sum-after sub-sum-after part-sum-after-start part-sum-after-end sum-after-requires returns)

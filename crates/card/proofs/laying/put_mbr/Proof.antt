@@ -1,6 +1,6 @@
 -- `card::laying::put_mbr` meets its contract. Assumes nothing.
 use borrow.Author.Needs.{needs}
-use Rattle.tables.proofs.LayWays.{mbr-stored}
+use Rattle.card.proofs.LayWays.{mbr-stored}
 use Rattle.card.proofs.laying.put_mbr.Statement.{statement}
 use Rattle.card.proofs.laying.put_mbr.Tie as tie
 

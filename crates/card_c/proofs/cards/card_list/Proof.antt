@@ -1,6 +1,6 @@
 -- `cards::card_list` meets its contract. Assumes nothing.
 use borrow.Author.Needs.{needs}
-use Rattle.card_row.proofs.Laws.{listed-within}
+use Rattle.listing.proofs.LentRow.{listed-within}
 use Rattle.card_c.proofs.Laws.{rows-told}
 use Rattle.card_c.proofs.cards.card_list.Statement.{statement}
 use Rattle.card_c.proofs.cards.card_list.Tie as tie

@@ -8,7 +8,7 @@ use borrow.Author.Tests.{not-true, not-false}
 use borrow.Author.Needs.{needs}
 use Rattle.units.specs.Bytes.{part}
 use Rattle.tables.specs.Checks.{all}
-use Rattle.tables.specs.Entries.{entry, clash}
+use Rattle.tables.specs.Entries.{entry, overlaps}
 use Rattle.checking.specs.Order.{greatestLast, Below}
 use Rattle.checking.proofs.CheckWays.{entry-at, all-fails, all-more, all-end, all-start, square}
 use Rattle.checking.proofs.OrderLaws.{below-none, below-more}
@@ -17,7 +17,7 @@ use Rattle.checking.proofs.inner.all_apart.Tie as tie
 
 abbrev Inv-loop : tie.InvT-loop
 Inv-loop img at top₀ k₀ top k =
-    (k ≤ 128) × (all k (λ (i : ℕ). all i (λ (j : ℕ). not (clash (entry (part img (at .0) 16384) i) (entry (part img (at .0) 16384) j)))) ≡ true) × Below (part img (at .0) 16384) k (top .0)
+    (k ≤ 128) × (all k (λ (i : ℕ). all i (λ (j : ℕ). not (overlaps (entry (part img (at .0) 16384) i) (entry (part img (at .0) 16384) j)))) ≡ true) × Below (part img (at .0) 16384) k (top .0)
 
 abbrev μ-loop : tie.MeasureT-loop
 μ-loop img at top₀ k₀ top k = 128 - k

@@ -6,15 +6,15 @@ use native.Mathlib.Omega.{arith}
 use borrow.Author.Needs.{needs}
 use Rattle.units.specs.Bytes.{part, num, allZero}
 use Rattle.tables.specs.Checks.{all}
-use Rattle.tables.specs.Entries.{entry, clash}
+use Rattle.tables.specs.Entries.{entry, overlaps}
 use Rattle.tables.proofs.Orders.{all-of}
-use Rattle.checking.proofs.CheckWays.{entry-at, all-fails, all-more, all-end, all-start, clash-unused, own-used, own-first, own-last}
+use Rattle.checking.proofs.CheckWays.{entry-at, all-fails, all-more, all-end, all-start, overlaps-unused, own-used, own-first, own-last}
 use Rattle.checking.proofs.inner.apart_below.Statement.{statement}
 use Rattle.checking.proofs.inner.apart_below.Tie as tie
 
 abbrev Inv-loop : tie.InvT-loop
 Inv-loop img at k first last j₀ j =
-    (j ≤ k) × (all j (λ (i : ℕ). not (clash (entry (part img (at .0) 16384) k) (entry (part img (at .0) 16384) i))) ≡ true)
+    (j ≤ k) × (all j (λ (i : ℕ). not (overlaps (entry (part img (at .0) 16384) k) (entry (part img (at .0) 16384) i))) ≡ true)
 
 abbrev μ-loop : tie.MeasureT-loop
 μ-loop img at k first last j₀ j = k - j
@@ -22,20 +22,20 @@ abbrev μ-loop : tie.MeasureT-loop
 entry-place-requires : tie.Need-entry-place-requires Inv-loop μ-loop
 entry-place-requires c κs = search needs
 
-all-zero-requires : tie.Need-all-zero-requires Inv-loop μ-loop
-all-zero-requires c κs = omega (arith, c .entry-place .ensures)
+nil-type-at-requires : tie.Need-nil-type-at-requires Inv-loop μ-loop
+nil-type-at-requires c κs = omega (arith, c .entry-place .ensures)
 
 returns : tie.Need-returns Inv-loop μ-loop
 returns c =
     let a = c .before .before .before .before .args in
-    let z = c .before .all-zero .ensures ∙ ap (λ (o : ℕ). allZero (part (a .img .now) o 16)) (c .before .before .entry-place .ensures) in
-    sym (all-of (a .k) _ (λ j h. ap not (clash-unused _ _ (own-used (a .img .now) (a .at .0) (a .k) (omega arith) z ∙ ap not (c .if1 .taken)))))
+    let z = c .before .nil-type-at .ensures ∙ ap (λ (o : ℕ). allZero (part (a .img .now) o 16)) (c .before .before .entry-place .ensures) in
+    sym (all-of (a .k) _ (λ j h. ap not (overlaps-unused _ _ (own-used (a .img .now) (a .at .0) (a .k) (omega arith) z ∙ ap not (c .if1 .taken)))))
 
-first-of-requires : tie.Need-first-of-requires Inv-loop μ-loop
-first-of-requires c κs = omega (arith, c .before .before .entry-place .ensures)
+first-at-requires : tie.Need-first-at-requires Inv-loop μ-loop
+first-at-requires c κs = omega (arith, c .before .before .entry-place .ensures)
 
-last-of-requires : tie.Need-last-of-requires Inv-loop μ-loop
-last-of-requires c κs = omega (arith, c .before .before .before .entry-place .ensures)
+last-at-requires : tie.Need-last-at-requires Inv-loop μ-loop
+last-at-requires c κs = omega (arith, c .before .before .before .entry-place .ensures)
 
 loop-holds : tie.Need-loop-holds Inv-loop μ-loop
 loop-holds c = (omega arith, all-start _)
@@ -43,21 +43,21 @@ loop-holds c = (omega arith, all-start _)
 entry-place-requires-2 : tie.Need-entry-place-requires-2 Inv-loop μ-loop
 entry-place-requires-2 c κs = search needs
 
-meets-requires : tie.Need-meets-requires Inv-loop μ-loop
-meets-requires c κs = omega (arith, c .entry-place2 .ensures)
+overlaps-requires : tie.Need-overlaps-requires Inv-loop μ-loop
+overlaps-requires c κs = omega (arith, c .entry-place2 .ensures)
 
 -- whether entry j shares a block with entry k, as the code finds it
-found : (c : tie.After-meets Inv-loop μ-loop) → let a = c .before .before .before .before .before .before .before .before .before .before .args in let j = c .before .before .before .loop .j in
-    c .meets .result ≡ clash (entry (part (a .img .now) (a .at .0) 16384) (a .k)) (entry (part (a .img .now) (a .at .0) 16384) j)
+found : (c : tie.After-overlaps Inv-loop μ-loop) → let a = c .before .before .before .before .before .before .before .before .before .before .args in let j = c .before .before .before .loop .j in
+    c .overlaps .result ≡ overlaps (entry (part (a .img .now) (a .at .0) 16384) (a .k)) (entry (part (a .img .now) (a .at .0) 16384) j)
 found c =
     let a = c .before .before .before .before .before .before .before .before .before .before .args in
     let j = c .before .before .before .loop .j in
     let p = c .before .before .before .before .before .before .before .before .entry-place .ensures in
-    c .meets .ensures (entry (part (a .img .now) (a .at .0) 16384) (a .k))
-    (own-used (a .img .now) (a .at .0) (a .k) (omega arith) (c .before .before .before .before .before .before .before .all-zero .ensures ∙ ap (λ (o : ℕ). allZero (part (a .img .now) o 16)) p) ∙ ap not (c .before .before .before .before .before .before .if1 .left))
-    (own-first (a .img .now) (a .at .0) (a .k) (omega arith) (c .before .before .before .before .before .first-of .ensures ∙ ap (λ (o : ℕ). num (a .img .now) (o + 32) 8) p))
-    (own-last (a .img .now) (a .at .0) (a .k) (omega arith) (c .before .before .before .before .last-of .ensures ∙ ap (λ (o : ℕ). num (a .img .now) (o + 40) 8) p))
-    ∙ ap (clash (entry (part (a .img .now) (a .at .0) 16384) (a .k))) (sym (entry-at (a .img .now) (a .at .0) j (omega arith) (c .before .entry-place2 .ensures)))
+    c .overlaps .ensures (entry (part (a .img .now) (a .at .0) 16384) (a .k))
+    (own-used (a .img .now) (a .at .0) (a .k) (omega arith) (c .before .before .before .before .before .before .before .nil-type-at .ensures ∙ ap (λ (o : ℕ). allZero (part (a .img .now) o 16)) p) ∙ ap not (c .before .before .before .before .before .before .if1 .left))
+    (own-first (a .img .now) (a .at .0) (a .k) (omega arith) (c .before .before .before .before .before .first-at .ensures ∙ ap (λ (o : ℕ). num (a .img .now) (o + 32) 8) p))
+    (own-last (a .img .now) (a .at .0) (a .k) (omega arith) (c .before .before .before .before .last-at .ensures ∙ ap (λ (o : ℕ). num (a .img .now) (o + 40) 8) p))
+    ∙ ap (overlaps (entry (part (a .img .now) (a .at .0) 16384) (a .k))) (sym (entry-at (a .img .now) (a .at .0) j (omega arith) (c .before .entry-place2 .ensures)))
 
 returns-2 : tie.Need-returns-2 Inv-loop μ-loop
 returns-2 c =
@@ -85,13 +85,13 @@ apart-below-spec =
     Inv-loop
     μ-loop
     entry-place-requires
-    all-zero-requires
+    nil-type-at-requires
     returns
-    first-of-requires
-    last-of-requires
+    first-at-requires
+    last-at-requires
     loop-holds
     entry-place-requires-2
-    meets-requires
+    overlaps-requires
     returns-2
     add-j
     loop-less

@@ -10,7 +10,7 @@ array-sum-requires : tie.Need-array-sum-requires
 array-sum-requires c κs = search needs
 
 returns-2 : tie.Need-returns-2
-returns-2 c = search needs
+returns-2 c = c .array-sum .ensures
 
 pub back-sum-spec : {M : Type 1} → statement M
 back-sum-spec = tie.close (tie.spec returns array-sum-requires returns-2)

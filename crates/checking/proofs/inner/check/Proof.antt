@@ -1,23 +1,23 @@
--- `checking::inner::check` meets its contract: its number is one of the table of refusals. Assumes nothing.
-use mathlib.Core.Path.{_∙_}
-use native.Mathlib.Omega.{arith}
+-- `checking::inner::check` meets its contract: what it finds has a name. Assumes nothing.
+use mathlib.Core.Path.{ap, _∙_}
 use borrow.Author.Needs.{needs}
 use lib.ListN.{length}
+use Rattle.units.specs.declared.why.Why.{Why}
+use Rattle.units.specs.Meanings.{verdictMeans, verdictOf}
+use Rattle.units.proofs.Chains.{verdict-judged}
 use Rattle.tables.specs.Lens.{tables}
-use Rattle.tables.proofs.NumberWays.{judged-number, check-most}
+use Rattle.checking.proofs.CheckWays.{named-check}
 use Rattle.checking.proofs.inner.check.Statement.{statement}
 use Rattle.checking.proofs.inner.check.Tie as tie
 
-check-number-requires : tie.Need-check-number-requires
-check-number-requires c κs = search needs
-
-verdict-of-requires : tie.Need-verdict-of-requires
-verdict-of-requires c κs =
-    let a = c .before .before .args in
-    omega (arith, c .check-number .ensures, check-most (a .b) (length (a .img .now)) (tables (a .b) (a .img .now)))
+check-with-requires : tie.Need-check-with-requires
+check-with-requires c κs = c .before .table .ensures
 
 returns : tie.Need-returns
-returns c = c .verdict-of .ensures ∙ judged-number _ (c .before .check-number .ensures) tt
+returns c =
+    let a = c .before .before .before .before .before .args in
+    ap verdictMeans (c .verdict .ensures ∙ ap verdictOf (c .before .check-with .ensures))
+    ∙ verdict-judged _ (named-check (a .b) (length (a .img .now)) (tables (a .b) (a .img .now)))
 
 pub check-spec : {M : Type 1} → statement M
-check-spec = tie.close (tie.spec check-number-requires verdict-of-requires returns)
+check-spec = tie.close (tie.spec (λ c κs. search needs) check-with-requires (λ c κs. search needs) returns)

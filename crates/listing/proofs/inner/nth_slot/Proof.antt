@@ -5,7 +5,7 @@ use native.Mathlib.Omega.{arith}
 use lib.ListN.{drop}
 use Rattle.partition.specs.Array.{presentFrom}
 use Rattle.tables.specs.Lens.{tables}
-use Rattle.tables.specs.Listing.{presentSlots}
+use Rattle.listing.specs.Listing.{presentSlots}
 use Rattle.listing.proofs.Ways.{passed-one, none-left, first-left, all-left}
 use Rattle.listing.proofs.inner.nth_slot.Statement.{statement}
 use Rattle.listing.proofs.inner.nth_slot.Tie as tie

@@ -13,10 +13,10 @@ use Rattle.partition.proofs.inner.next_present.Statement.{statement}
 use Rattle.partition.proofs.inner.next_present.Tie as tie
 
 abbrev Inv-loop : tie.InvT-loop
-Inv-loop s at count after k₀ k = firstSlot s at count after ≡ getD (presentFrom s at k (count - k)) 0 0
+Inv-loop s at count k₀ k = firstSlot s at count k₀ ≡ getD (presentFrom s at k (count - k)) 0 0
 
 abbrev μ-loop : tie.MeasureT-loop
-μ-loop s at count after k₀ k = count - k
+μ-loop s at count k₀ k = count - k
 
 loop-holds : tie.Need-loop-holds Inv-loop μ-loop
 unfolding firstSlot

@@ -7,8 +7,8 @@ use Rattle.partition.proofs.Ways.{slot-unfound, slot-refused, slot-foun
 use Rattle.partition.proofs.inner.partition_place.Statement.{statement}
 use Rattle.partition.proofs.inner.partition_place.Tie as tie
 
-array-place-requires : tie.Need-array-place-requires
-array-place-requires c κs = search needs
+find-array-requires : tie.Need-find-array-requires
+find-array-requires c κs = search needs
 
 enum-known-w : tie.Need-enum-known-w
 enum-known-w c = search needs
@@ -16,8 +16,8 @@ enum-known-w c = search needs
 enum-known-at : tie.Need-enum-known-at
 enum-known-at c = search needs
 
-array-place-requires-2 : tie.Need-array-place-requires-2
-array-place-requires-2 c κs = search needs
+array-place-requires : tie.Need-array-place-requires
+array-place-requires c κs = search needs
 
 enum-known-w-2 : tie.Need-enum-known-w-2
 enum-known-w-2 c = search needs
@@ -34,27 +34,27 @@ mul-t14 c = search needs
 add-t15 : tie.Need-add-t15
 add-t15 c =
     omega
-    (arith, slot-inside _ _ _ _ (sym (c .before .before .before .before .before .before .before .before .array-place .ensures) ∙ ap placedMeans (c .before .before .before .before .before .before .at .given .1)) (sym (c .before .before .before .before .array-place2 .ensures) ∙ ap arrayPlaceMeans (c .before .before .k .given .1)))
+    (arith, slot-inside _ _ _ _ (sym (c .before .before .before .before .before .before .before .before .find-array .ensures) ∙ ap placedMeans (c .before .before .before .before .before .before .at .given .1)) (sym (c .before .before .before .before .array-place .ensures) ∙ ap arrayPlaceMeans (c .before .before .k .given .1)))
 
 returns : tie.Need-returns
-returns c = slot-unfound _ _ _ _ (sym (c .before .before .before .array-place .ensures) ∙ ap placedMeans (c .before .w .given .1))
+returns c = slot-unfound _ _ _ _ (sym (c .before .before .before .find-array .ensures) ∙ ap placedMeans (c .before .w .given .1))
 
 returns-2 : tie.Need-returns-2
 returns-2 c =
-    slot-refused _ _ _ _ (sym (c .before .before .before .before .before .before .before .array-place .ensures) ∙ ap placedMeans (c .before .before .before .before .before .at .given .1)) (sym (c .before .before .before .array-place2 .ensures) ∙ ap arrayPlaceMeans (c .before .w2 .given .1))
+    slot-refused _ _ _ _ (sym (c .before .before .before .before .before .before .before .find-array .ensures) ∙ ap placedMeans (c .before .before .before .before .before .at .given .1)) (sym (c .before .before .before .array-place .ensures) ∙ ap arrayPlaceMeans (c .before .w2 .given .1))
 
 returns-3 : tie.Need-returns-3
 returns-3 c =
-    slot-found _ _ _ _ (sym (c .before .before .before .before .before .before .before .before .array-place .ensures) ∙ ap placedMeans (c .before .before .before .before .before .before .at .given .1)) (sym (c .before .before .before .before .array-place2 .ensures) ∙ ap arrayPlaceMeans (c .before .before .k .given .1))
+    slot-found _ _ _ _ (sym (c .before .before .before .before .before .before .before .before .find-array .ensures) ∙ ap placedMeans (c .before .before .before .before .before .before .at .given .1)) (sym (c .before .before .before .before .array-place .ensures) ∙ ap arrayPlaceMeans (c .before .before .k .given .1))
 
 pub partition-place-spec : {M : Type 1} → statement M
 partition-place-spec =
     tie.close
     (tie.spec
-    array-place-requires
+    find-array-requires
     enum-known-w
     enum-known-at
-    array-place-requires-2
+    array-place-requires
     enum-known-w-2
     enum-known-k
     cast-t13

@@ -4,7 +4,8 @@ use mathlib.Core.Bool.{Bool, true, false, not}
 use Prim.Native.Nat.{ℕ}
 use borrow.Author.Needs.{needs}
 use Rattle.units.specs.declared.Lba.{Lba}
-use Rattle.tables.specs.Headers.{sideOf, ownBlock, otherBlock}
+use Rattle.tables.specs.Lens.{sideOf}
+use Rattle.tables.specs.Headers.{ownBlock, otherBlock}
 use Rattle.tables.proofs.inner.other_block.Statement.{statement}
 use Rattle.tables.proofs.inner.other_block.Tie as tie
 

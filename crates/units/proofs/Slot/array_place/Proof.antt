@@ -1,5 +1,6 @@
 -- `units::Slot::array_place` meets its contract. Assumes nothing.
 use mathlib.Core.Logic.{⊎-elim}
+use borrow.Author.Needs.{needs}
 use borrow.Author.Tests.{lt-ltb, le-ltb}
 use Rattle.units.specs.Places.{arrayPlaceOf}
 use Rattle.units.proofs.Slot.array_place.Statement.{statement}
@@ -15,7 +16,7 @@ returns c =
     (c .if1 .came)
 
 array-place-requires : tie.Need-array-place-requires
-array-place-requires c κs = c .before .if1 .left
+array-place-requires c κs = search needs
 
 returns-2 : tie.Need-returns-2
 unfolding arrayPlaceOf

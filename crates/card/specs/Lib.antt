@@ -1,0 +1,2 @@
+-- The definitions that the contracts of `card` cite.
+pub mod Calls

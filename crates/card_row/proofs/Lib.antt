@@ -1,2 +1,0 @@
--- The laws of the lent listing.
-pub mod Laws

@@ -1,2 +1,0 @@
--- The definition that the contract of `listing` cites.
-pub mod Listing

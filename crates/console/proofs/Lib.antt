@@ -1,0 +1,2 @@
+-- `Laws` has what a caller of `read_input` knows.
+pub mod Laws

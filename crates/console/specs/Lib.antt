@@ -1,0 +1,2 @@
+-- `Answers` says what the answers of this crate promise.
+pub mod Answers

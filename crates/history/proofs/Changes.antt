@@ -1,0 +1,139 @@
+-- What put and clear tell where they are accepted, that they are accepted exactly where nothing speaks against it, and the card that they leave.
+-- No contract cites this file. Assumes nothing.
+use mathlib.Core.Path.{_≡_, refl, sym, ap, _∙_, subst}
+use mathlib.Core.Bool.{Bool, true, false, not, _||_}
+use mathlib.Core.List.{List}
+use Prim.Native.Nat.{ℕ, _+_, _-_, _^_, _≤_, _<_}
+use native.Mathlib.Omega.{arith}
+use borrow.Author.Tests.{not-false, ltb-false, le-ltb, ne-eqb, eqb-false}
+use lib.Dec.{eqb, ltb}
+use lib.ListN.{length, getD, List·getD-eq-default}
+use Rattle.units.specs.declared.Guid.{Guid}
+use Rattle.units.specs.Guids.{guidBytes}
+use Rattle.units.specs.Held.{Small, GuidHeld}
+use Rattle.units.proofs.Chains.{else-none, else-first, else-second, when-none, none-when}
+use Rattle.units.specs.Answer.{pick, when, plain, ofSlot}
+use Rattle.tables.proofs.Good.{check-good, accepted-array, slot-ok}
+use Rattle.tables.specs.Checks.{lowest}
+use Rattle.tables.specs.Places.{firstUsable, lastUsable}
+use Rattle.tables.specs.Lens.{Tables, tablesAt, withTablesAt}
+use Rattle.tables.specs.Entries.{zeros, entry, setEntry, used, firstOf, lastOf, overlaps}
+use Rattle.tables.specs.Check.{guidOf, check, badSlot, slotCheck}
+use Rattle.card.specs.Calls.{firstOverlap, changed, putCheck, putAt, clearAt, recordCheck, overlapCheck}
+use Rattle.tables.proofs.Orders.{split, by-pick, or-left, or-right, neither, below-lowest, lowest-none}
+use Rattle.tables.proofs.EntryLaws.{length-zeros, getD-zeros, length-set-entry, entry-zeros, Inside, ok-of, ok-zeros, overlaps-comm, overlaps-zeros, Entries, entries-set}
+use Rattle.history.proofs.State.{held-back, State, state-check, state-front, write-state, accepted-image}
+
+-- what an accepted put says
+pub record Puts (B n : ℕ) (t : Tables) (s : ℕ) (e : List ℕ) : Type 0 where
+  pub card : check B n t .number ≡ 0
+  pub one : 1 ≤ s
+  pub slot : s - 1 < 128
+  pub taken : used e ≡ true
+  pub inside : Inside B n e
+  pub free : (j : ℕ) → j < 128 → (j ≡ s - 1 → ⊥) → overlaps e (entry (t .front .array) j) ≡ false
+
+pub put-ok : (B n : ℕ) (t : Tables) (s : ℕ) (e : List ℕ) → putCheck B n t s e .number ≡ 0 → Puts B n t s e
+unfolding putCheck recordCheck overlapCheck firstOverlap
+put-ok B n t s e h =
+    let h1 = else-second (check B n t) _ h in
+    let r = else-first (recordCheck B n s e) _ h1 in
+    let c18 : badSlot s ≡ false = none-when _ (plain 18) tt (else-first (when (badSlot s) (plain 18)) _ r) in
+    let h2 = else-second (when (badSlot s) (plain 18)) _ r in
+    let c19 : not (used e) ≡ false = none-when _ (plain 19) tt (else-first (when (not (used e)) (plain 19)) _ h2) in
+    let h3 = else-second (when (not (used e)) (plain 19)) _ h2 in
+    let c20 : ltb (lastOf e) (firstOf e) ≡ false = none-when _ (plain 20) tt (else-first (when (ltb (lastOf e) (firstOf e)) (plain 20)) _ h3) in
+    let c21 : ltb (firstOf e) (firstUsable B) || ltb (lastUsable B n) (lastOf e) ≡ false = none-when _ (plain 21) tt (else-second (when (ltb (lastOf e) (firstOf e)) (plain 20)) _ h3) in
+    let j : ℕ = firstOverlap (t .front .array) (s - 1) e in
+    let c22 : ltb (firstOverlap (t .front .array) (s - 1) e) 128 ≡ false = none-when _ (ofSlot 22 (j + 1)) tt (else-second (recordCheck B n s e) _ h1) in
+    let m : 128 ≤ lowest 128 (λ (j : ℕ). pick (eqb j (s - 1)) false (overlaps e (entry (t .front .array) j))) = ltb-false _ _ c22 in
+    record {
+      card = else-first (check B n t) _ h;
+      one = slot-ok s c18 .0;
+      slot = slot-ok s c18 .1;
+      taken = not-false _ c19;
+      inside = record {
+        order = ltb-false _ _ c20;
+        low = ltb-false _ _ (or-left _ _ c21);
+        high = ltb-false _ _ (or-right (ltb (firstOf e) (firstUsable B)) _ c21);
+      };
+      free = λ j p d.
+          subst (λ (b : Bool). pick b false (overlaps e (entry (t .front .array) j)) ≡ false) (ne-eqb j (s - 1) d)
+          (below-lowest 128 (λ (j : ℕ). pick (eqb j (s - 1)) false (overlaps e (entry (t .front .array) j))) j (omega arith));
+    }
+
+-- and whatever it says makes a put accepted: 18 to 22 are given exactly when they apply
+pub ok-put : (B n : ℕ) (t : Tables) (s : ℕ) (e : List ℕ) → Puts B n t s e → putCheck B n t s e .number ≡ 0
+unfolding putCheck recordCheck overlapCheck firstOverlap
+ok-put B n t s e p =
+    let i = p .inside in
+    let m : lowest 128 (λ (j : ℕ). pick (eqb j (s - 1)) false (overlaps e (entry (t .front .array) j))) ≡ 128 =
+    lowest-none 128 _ (λ j q. by-pick (λ (b : Bool). b ≡ false) (eqb j (s - 1)) _ _ (λ _. refl) (λ d. p .free j q (eqb-false j (s - 1) d))) in
+    let k : ℕ = lowest 128 (λ (j : ℕ). pick (eqb j (s - 1)) false (overlaps e (entry (t .front .array) j))) in
+    else-none _ _ (p .card)
+    (else-none _ _
+    (else-none _ _ (when-none _ (plain 18) (neither (le-ltb s 1 (p .one)) (le-ltb 128 s (omega (arith, p .slot)))))
+    (else-none _ _ (when-none _ (plain 19) (ap not (p .taken)))
+    (else-none _ _ (when-none _ (plain 20) (le-ltb _ _ (i .order)))
+    (when-none _ (plain 21) (neither (le-ltb _ _ (i .low)) (le-ltb _ _ (i .high)))))))
+    (when-none _ (ofSlot 22 (k + 1)) (le-ltb (lowest 128 (λ (j : ℕ). pick (eqb j (s - 1)) false (overlaps e (entry (t .front .array) j)))) 128 (omega arith))))
+
+small-zeros : (n : ℕ) → Small (zeros n)
+small-zeros n i =
+    split n i
+    (λ p. let z : getD (zeros n) i 0 ≡ 0 = List·getD-eq-default (zeros n) 0 (omega (arith, length-zeros n)) in omega arith)
+    (λ p. omega (arith, getD-zeros n i p))
+
+-- so a freshly laid card takes any used entry inside its usable blocks, in any slot
+pub fresh-put : (B n : ℕ) (g : Guid) (xs : List ℕ) (s : ℕ) (e : List ℕ) → State B n (guidBytes g) (zeros 16384) xs → n < 2 ^ 64 → GuidHeld g → 1 ≤ s → s ≤ 128 → used e ≡ true
+    → Inside B n e → putCheck B n (tablesAt B n xs) s e .number ≡ 0
+fresh-put B n g xs s e k l h a b u i =
+    ok-put B n (tablesAt B n xs) s e
+    (record {
+      card = state-check k l (held-back g h) (small-zeros 16384);
+      one = a;
+      slot = omega arith;
+      taken = u;
+      inside = i;
+      free = λ j q _. ap (λ (r : List ℕ). overlaps e (entry r j)) (state-front k) ∙ ap (λ (x : List ℕ). overlaps e x) (entry-zeros j q) ∙ overlaps-comm e (zeros 128) ∙ overlaps-zeros e;
+    })
+
+pub clear-check : (B n : ℕ) (t : Tables) (s : ℕ) → slotCheck B n t s .number ≡ 0 → check B n t .number ≡ 0
+unfolding slotCheck
+clear-check B n t s h = else-first (check B n t) _ h
+
+pub clear-slot : (B n : ℕ) (t : Tables) (s : ℕ) → slotCheck B n t s .number ≡ 0 → (1 ≤ s) × (s - 1 < 128)
+unfolding slotCheck
+clear-slot B n t s h =
+    let b : badSlot s ≡ false = none-when _ (plain 18) tt (else-second (check B n t) _ h) in
+    slot-ok s b
+
+module _ (B n : ℕ) (xs : List ℕ) (l : length xs ≡ n) (s : ℕ) where
+  -- one slot changed under lay's headers, on any card that the check accepts
+  change-done : (e : List ℕ) → length e ≡ 128 → check B n (tablesAt B n xs) .number ≡ 0 → s - 1 < 128
+      → Entries B n (setEntry (tablesAt B n xs .front .array) (s - 1) e)
+      → State B n (guidOf (tablesAt B n xs .front)) (setEntry (tablesAt B n xs .front .array) (s - 1) e) (withTablesAt B n xs (changed B n (tablesAt B n xs) s e))
+  unfolding changed
+  change-done e le c p q =
+      write-state B n xs l _ _ (check-good B n (tablesAt B n xs) c .room) (length-set-entry _ (s - 1) e (accepted-array B n xs l c) p le) q
+
+  pub put-done : (e : List ℕ) → length e ≡ 128 → putCheck B n (tablesAt B n xs) s e .number ≡ 0
+      → State B n (guidOf (tablesAt B n xs .front)) (setEntry (tablesAt B n xs .front .array) (s - 1) e) (putAt B n xs s e .image)
+  unfolding putAt
+  put-done e le h =
+      let o = put-ok B n (tablesAt B n xs) s e h in
+      let k = check-good B n (tablesAt B n xs) (o .card) in
+      subst (λ (i : List ℕ). State B n (guidOf (tablesAt B n xs .front)) (setEntry (tablesAt B n xs .front .array) (s - 1) e) i) (sym (accepted-image tt _ xs _ h))
+      (change-done e le (o .card) (o .slot)
+      (entries-set B n _ (s - 1) e (accepted-array B n xs l (o .card)) (o .slot) le (k .entries) (ok-of B n e (o .taken) (o .inside)) (o .free)))
+
+  pub clear-done : slotCheck B n (tablesAt B n xs) s .number ≡ 0
+      → State B n (guidOf (tablesAt B n xs .front)) (setEntry (tablesAt B n xs .front .array) (s - 1) (zeros 128)) (clearAt B n xs s .image)
+  unfolding clearAt slotCheck
+  clear-done h =
+      let c : check B n (tablesAt B n xs) .number ≡ 0 = else-first (check B n (tablesAt B n xs)) _ h in
+      let p : s - 1 < 128 = clear-slot B n (tablesAt B n xs) s h .1 in
+      let k = check-good B n (tablesAt B n xs) c in
+      subst (λ (i : List ℕ). State B n (guidOf (tablesAt B n xs .front)) (setEntry (tablesAt B n xs .front .array) (s - 1) (zeros 128)) i) (sym (accepted-image tt _ xs _ h))
+      (change-done (zeros 128) (length-zeros 128) c p
+      (entries-set B n _ (s - 1) (zeros 128) (accepted-array B n xs l c) p (length-zeros 128) (k .entries) (ok-zeros B n) (λ j _ _. overlaps-zeros _)))

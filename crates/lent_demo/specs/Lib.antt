@@ -1,0 +1,2 @@
+-- The definitions that the contracts of `lent_demo` cite.
+pub mod Marked

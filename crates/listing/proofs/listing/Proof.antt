@@ -1,0 +1,41 @@
+-- `listing::listing` meets its contract: the law of `rows/proofs/Lends`, at the plan of a card. Assumes nothing.
+use mathlib.Core.List.{[], _∷_}
+use contract.Running.{givenOf, tables, tablesOf}
+use denote.Builtin.{u64}
+use denote.Triple.Spec.{tripleOf}
+use denote.Triple.Table.{entered, cited}
+use mir.Syntax.{w64}
+use Rattle.units.proofs.Params.{int}
+use Rattle.rows.proofs.Lends as law
+use Rattle.rows.proofs.inner.fill.Symbol as g-def
+use Rattle.rows.proofs.inner.fill.Symbol.{name as #g}
+use Rattle.rows.proofs.inner.fill.Met as g-thm
+use Rattle.listing.specs.LentRow.{cardEntries, listingRead}
+use Rattle.listing.proofs.LentRow.{listed-within}
+use Rattle.listing.proofs.inner.plan_of.Symbol as p-def
+use Rattle.listing.proofs.inner.plan_of.Symbol.{name as #p}
+use Rattle.listing.proofs.inner.plan_of.Met as p-thm
+use Rattle.listing.proofs.listing.Key.{name as #f}
+use Rattle.listing.proofs.listing as f
+use Rattle.listing.proofs.listing.Statement as stated
+use Rattle.listing.proofs.listing.Code as code
+
+-- a block size stands between the image and the row
+abbrev call : law.Call
+call = record {
+  Rs = u64 ∷ [];
+  pars = (int w64, tt);
+  ask = λ xs a. cardEntries (a .0) xs;
+  told = λ xs a m. listingRead (a .0) xs m;
+  same = λ xs a m. listed-within (a .0) xs m;
+  plan = #p;
+}
+
+pub listing-spec : {M : Type 1} → stated.statement M
+unfolding code.routine tablesOf
+listing-spec 𝓤 H 𝓜 𝓖 𝓡 =
+    entered 𝓤 H (tripleOf 𝓤 H (𝓖 .A) f.signature (f.spec 𝓤 H (𝓖 .A) (𝓜 .mem) (𝓡 .run)))
+    (tables 𝓤 H 𝓜 𝓡 code.env .C) (tables 𝓤 H 𝓜 𝓡 code.env .Λ) #f code.function (code.unfolded 𝓤 H 𝓜 𝓡)
+    (law.meets call 𝓤 H (𝓖 .A) (givenOf 𝓤 H 𝓜 𝓖) (𝓜 .mem) (𝓡 .run) (tablesOf 𝓤 H 𝓜 (tables 𝓤 H 𝓜 𝓡 code.env))
+    (cited 𝓤 H (law.Plans call 𝓤 H (𝓖 .A)) 𝓜 𝓡 code.env #p p-def.routine code.calls-listing·inner·plan-of (p-thm.met 𝓤 H 𝓜 𝓖 𝓡))
+    (cited 𝓤 H (law.Fills 𝓤 H (𝓖 .A) (𝓜 .mem) (𝓡 .run)) 𝓜 𝓡 code.env #g g-def.routine code.calls-rows·inner·fill (g-thm.met 𝓤 H 𝓜 𝓖 𝓡)))

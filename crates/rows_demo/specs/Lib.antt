@@ -1,2 +1,0 @@
--- The definitions that the contracts of `rows_demo` cite.
-pub mod Marked

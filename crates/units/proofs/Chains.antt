@@ -1,0 +1,186 @@
+-- The laws of checks in their order (`specs/Answer`): what a chain gives at each way out of the code, what an accepted chain says of its checks, and that a chain's
+-- refusal has a name. No contract cites this file. Assumes nothing.
+use mathlib.Core.Path.{_≡_, refl, sym, ap, _∙_}
+use mathlib.Core.Bool.{Bool, true, false}
+use mathlib.Core.List.{List, [], _∷_}
+use Prim.Native.Nat.{ℕ, zero, suc, _+_, _≤_, _<_}
+use native.Mathlib.Omega.{arith}
+use lib.Dec.{T, ltb, ltb→lt}
+use lib.ListN.{length, getD}
+use borrow.Author.Tests.{lt-ltb, ltb-true}
+use Rattle.units.specs.declared.Refusal.{Refusal}
+use Rattle.units.specs.declared.Refusal.the-variants.{EmptyList}
+use Rattle.units.specs.declared.Verdict.the-variants as verdict
+use Rattle.units.specs.declared.why.Why.{Why}
+use Rattle.units.specs.Answer.{Answer, accepted, refused, fine, when, ifZero, orElse, judged, settle, gives, ends, pick}
+use Rattle.units.specs.Refusals.{why, names, refusalOf, laterRefusal, back}
+use Rattle.units.specs.Meanings.{verdictMeans, verdictOf}
+
+-- ---- the ways out of the code
+
+-- a test that holds, or does not
+pub here : {t : Bool} {k : ℕ} {w : Why} (m : Why) → w .number ≡ suc k → t ≡ true → w ≡ orElse (when t w) m
+unfolding orElse
+here m n q = rw (q, n)
+
+pub on : {t : Bool} (w : Why) {r : Why} {m : Why} → t ≡ false → r ≡ m → r ≡ orElse (when t w) m
+unfolding orElse
+on w q h = rw q h
+
+pub last : {t : Bool} (w : Why) → t ≡ true → w ≡ when t w
+last w q = rw q
+
+pub none : {t : Bool} (w : Why) → t ≡ false → fine ≡ when t w
+none w q = rw q
+
+-- a number that is not 0, or is
+some : {X : Type 0} (k : ℕ) (a b : X) → (k ≡ 0 → ⊥) → b ≡ ifZero k a b
+some zero a b d = absurd (d refl)
+some (suc k) a b d = refl
+
+pub number-of : {f a : Why} → f ≡ a → f .number ≡ a .number
+number-of e = ap (λ (w : Why). w .number) e
+
+-- what a part found refuses; where it found nothing the next part gives the answer
+pub found : {f a : Why} (m : Why) → f ≡ a → (f .number ≡ 0 → ⊥) → f ≡ orElse a m
+unfolding orElse
+found {f} {a} m e d = e ∙ some (a .number) m a (λ z. d (number-of e ∙ z))
+
+pub past : {f a r m : Why} → f ≡ a → f .number ≡ 0 → r ≡ m → r ≡ orElse a m
+unfolding orElse
+past {f} {a} {r} {m} e z q = q ∙ ap (λ (k : ℕ). ifZero k m a) (sym z ∙ number-of e)
+
+-- ---- an accepted chain
+
+pub else-none : (a b : Why) → a .number ≡ 0 → b .number ≡ 0 → orElse a b .number ≡ 0
+unfolding orElse
+else-none a b p q = ap (λ (k : ℕ). ifZero k b a .number) p ∙ q
+
+first-zero : (k : ℕ) (a b : Why) → a .number ≡ k → ifZero k b a .number ≡ 0 → k ≡ 0
+first-zero zero a b e h = refl
+first-zero (suc k) a b e h = sym e ∙ h
+
+pub else-first : (a b : Why) → orElse a b .number ≡ 0 → a .number ≡ 0
+unfolding orElse
+else-first a b h = first-zero (a .number) a b refl h
+
+pub else-second : (a b : Why) → orElse a b .number ≡ 0 → b .number ≡ 0
+unfolding orElse
+else-second a b h = sym (ap (λ (k : ℕ). ifZero k b a .number) (else-first a b h)) ∙ h
+
+pub when-none : (t : Bool) (w : Why) → t ≡ false → when t w .number ≡ 0
+when-none t w e = ap (λ (b : Bool). when b w .number) e
+
+pub none-when : (t : Bool) (w : Why) → T (ltb 0 (w .number)) → when t w .number ≡ 0 → t ≡ false
+none-when true w h e = absurd (omega (arith, ltb→lt 0 (w .number) h))
+none-when false w h e = refl
+
+-- ---- the name of a chain's refusal
+
+-- a refusal as a value that has a name, or none
+pub record Named (w : Why) : Type 0 where
+  pub name : (w .number ≡ 0 → ⊥) → why (refusalOf w) ≡ w
+
+pub named-is : (r : Refusal) → Named (why r)
+named-is r = record { name = λ d. ap why (back r) }
+
+pub named-when : (t : Bool) (w : Why) → Named w → Named (when t w)
+named-when true w n = n
+named-when false w n = record { name = λ d. absurd (d refl) }
+
+pub named-else : (a b : Why) → Named a → Named b → Named (orElse a b)
+unfolding orElse
+named-else a b p q = by (a .number)
+  where
+    by : (k : ℕ) → Named (ifZero k b a)
+    by zero = q
+    by (suc k) = p
+
+-- the verdict of such a refusal means it
+pub verdict-judged : (w : Why) → Named w → verdictMeans (verdictOf w) ≡ judged w tt
+unfolding verdictOf judged
+verdict-judged w n = by (w .number) (refusalOf w) (n .name)
+  where
+    by : (k : ℕ) (r : Refusal) → ((k ≡ 0 → ⊥) → why r ≡ w) → verdictMeans (ifZero k verdict.Accepted (verdict.Refused r)) ≡ ifZero k (accepted tt) (refused w)
+    by zero r e = refl
+    by (suc k) r e = ap refused (e (λ z. omega arith))
+
+-- ---- numbers by name, as a match of code comes to them
+
+pub is-named : (w : Why) {k : ℕ} → w .number ≡ k → getD (names (w .slot)) k EmptyList ≡ refusalOf w
+unfolding refusalOf
+is-named w e = ap (λ (n : ℕ). getD (names (w .slot)) n EmptyList) (sym e)
+
+-- n is none of the k numbers behind f, in the form in which a match of code says so
+abbrev pub Passed : ℕ → ℕ → ℕ → Type 0
+Passed f zero n = Unit
+Passed f (suc k) n = Passed f k n × (n ≡ f + suc k → ⊥)
+
+passed : (f k n : ℕ) → Passed f k n → f < n → f + k < n
+passed f zero n p l = omega arith
+passed f (suc k) n p l = let h = passed f k n (p .0) l in let d = p .1 in omega arith
+
+past-end : {A : Type 0} (xs : List A) (n : ℕ) (d : A) → length xs ≤ n → d ≡ getD xs n d
+past-end [] n d h = refl
+past-end (x ∷ xs) zero d h = absurd (omega arith)
+past-end (x ∷ xs) (suc n) d h = past-end xs n d (omega arith)
+
+-- the names of document 02, which the names of document 01 leave over
+pub is-later : (w : Why) {k : ℕ} → w .number ≡ k → T (ltb 24 k) → getD (names (w .slot)) k EmptyList ≡ laterRefusal w
+unfolding refusalOf
+is-later w {k} e h = let l : ltb 24 k ≡ true = lt-ltb 24 k (ltb→lt 24 k h) in rw (e, l)
+
+pub past-later : (w : Why) → Passed 24 13 (w .number) → EmptyList ≡ laterRefusal w
+unfolding refusalOf
+past-later w p = by (ltb 24 (w .number)) refl
+  where
+    by : (t : Bool) → ltb 24 (w .number) ≡ t → EmptyList ≡ pick t (getD (names (w .slot)) (w .number) EmptyList) EmptyList
+    by true e = past-end (names (w .slot)) (w .number) EmptyList (omega (arith, passed 24 13 (w .number) p (ltb-true 24 (w .number) e)))
+    by false e = refl
+
+pub later-names : (w : Why) → Passed 0 24 (w .number) → laterRefusal w ≡ refusalOf w
+unfolding refusalOf
+later-names w p = by (w .number) p
+  where
+    by : (n : ℕ) → Passed 0 24 n → pick (ltb 24 n) (getD (names (w .slot)) n EmptyList) EmptyList ≡ getD (names (w .slot)) n EmptyList
+    by zero q = refl
+    by (suc n) q = ap (λ (t : Bool). pick t (getD (names (w .slot)) (suc n) EmptyList) EmptyList) (lt-ltb 24 (suc n) (passed 0 24 (suc n) q (omega arith)))
+
+pub verdict-fine : (w : Why) → w .number ≡ 0 → verdict.Accepted ≡ verdictOf w
+unfolding verdictOf
+verdict-fine w e = rw e
+
+pub verdict-refused : (w : Why) {r : Refusal} → (w .number ≡ 0 → ⊥) → r ≡ refusalOf w → verdict.Refused r ≡ verdictOf w
+unfolding verdictOf
+verdict-refused w d e = ap verdict.Refused e ∙ some (w .number) verdict.Accepted (verdict.Refused (refusalOf w)) d
+
+-- ---- the ends of a call
+
+module _ {A : Type 0} (v : A) where
+  pub judged-none : (w : Why) → w .number ≡ 0 → judged w v ≡ accepted v
+  unfolding judged
+  judged-none w h = rw h
+
+  pub judged-some : (w : Why) → (w .number ≡ 0 → ⊥) → judged w v ≡ refused w
+  unfolding judged
+  judged-some w d = sym (some (w .number) (accepted v) (refused w) d)
+
+  pub judged-zero : (w : Why) (x : A) → judged w v ≡ accepted x → w .number ≡ 0
+  unfolding judged
+  judged-zero w x h = by (w .number) refl h
+    where
+      by : (k : ℕ) → w .number ≡ k → ifZero k (accepted v) (refused w) ≡ accepted x → w .number ≡ 0
+      by zero e q = e
+      by (suc k) e q = let z : _≡_ {A = ℕ} 0 1 = cc in absurd (omega arith)
+
+  -- nothing refuses: the new slice
+  pub settle-accepted : (w : Why) (old new : List ℕ) → w .number ≡ 0 → settle w v old new ≡ gives (accepted v) new
+  unfolding settle judged
+  settle-accepted w old new h = rw h
+
+  -- a refusal changes nothing
+  pub settle-refused : (w : Why) (old new : List ℕ) → (w .number ≡ 0 → ⊥) → settle w v old new ≡ gives (refused w) old
+  unfolding settle
+  settle-refused w old new d =
+      ap (λ (a : Answer A). gives a (ifZero (w .number) new old)) (judged-some w d)
+      ∙ ap (λ (l : List ℕ). gives (refused w) l) (sym (some (w .number) new old d))

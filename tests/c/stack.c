@@ -1,0 +1,125 @@
+/* How much stack a call needs: each call runs on a thread whose stack was painted before, and what is overwritten afterwards is counted. No call
+   may need more than the header's CARD_STACK, and each call must end on a thread of 32 KiB with a page below it that cannot be touched.
+   It ends with "stack: ..", or with exit status 1 after a line for each call that needs more. Build: see tests/c/README.md. */
+#define _GNU_SOURCE
+#include "card.h"
+#include <pthread.h>
+#include <stdio.h>
+#include <stdlib.h>
+#include <string.h>
+#include <sys/mman.h>
+
+#define BLOCK 512
+#define BLOCKS 200
+#define LEN (BLOCKS * BLOCK)
+#define ROOM 65536
+#define THREAD 32768
+#define PAGE 4096
+#define PAINT 0xA5
+
+static uint8_t img[LEN], was[128], is[128];
+static card_row rows[128];
+static gpt_partition map = {.part_type_guid = {1, 2, 3, {4}}};
+static gpt_header header;
+static volatile uint32_t number;
+
+static gpt_partition in_block(uint64_t block) {
+    gpt_partition p = map;
+    p.first_lba = p.last_lba = block;
+    return p;
+}
+
+static void nothing(void) { number = 0; }
+static void lay(void) { number = card_lay(img, LEN, BLOCK, (gpt_guid){5, 6, 7, {8}}).number; }
+static void check(void) { number = card_check(img, LEN, BLOCK).number; }
+static void put(void) { number = card_put(img, LEN, BLOCK, 64, in_block(162 - 64)).number; }
+static void clear(void) { number = card_clear(img, LEN, BLOCK, 64).number; }
+static void payload(void) { number = card_write_payload(img, LEN, BLOCK, 64, 100, was, 128).number; }
+static void count_used(void) { number = card_count_used(img, LEN, BLOCK).number; }
+static void next_used(void) { number = card_next_used(img, LEN, BLOCK, 64).number; }
+static void read_slot(void) { number = card_read_slot(img, LEN, BLOCK, 64).number; }
+static void nth_used(void) { number = card_nth_used(img, LEN, BLOCK, 100).number; }
+static void list(void) { number = card_list(img, LEN, BLOCK, (uint8_t *)rows, sizeof rows).number; }
+static void crc32(void) { number = gpt_crc32(img, LEN) == 0; }
+static void read_backup(void) { number = gpt_read_backup_header(img, LEN, BLOCK).number; }
+static void write_primary(void) { number = gpt_write_primary(img, LEN, header, BLOCK).number; }
+static void slot_sum(void) { number = gpt_slot_sum(1, was, 128, is, 128, 1048448).number; }
+static void build(void) { number = gpt_build_from_header(header, BLOCK).number; }
+static void read_partition(void) { number = gpt_read_partition(img, LEN, header, BLOCK, 128).number; }
+static void read_partitions(void) { number = gpt_file_read_partitions(img, LEN, header, BLOCK, (uint8_t *)rows, sizeof rows).number; }
+static void zero_entries(void) { number = gpt_write_zero_entries(img, LEN, 0, 4, 100, BLOCK, 4096).number; }
+static void mbr_set(void) { number = gpt_mbr_set_record(gpt_mbr_new(9), 3, gpt_mbr_protective_record(9)).number; }
+static void mbr_overwrite(void) { number = gpt_mbr_overwrite(img, LEN, gpt_mbr_new(LEN / BLOCK)).number; }
+
+typedef struct kind {
+    const char *name;
+    void (*call)(void);
+} kind;
+#define KIND(call) {#call, call}
+static const kind kinds[] = {
+    KIND(lay), KIND(check), KIND(put), KIND(clear), KIND(payload), KIND(count_used), KIND(next_used), KIND(read_slot), KIND(nth_used),
+    KIND(list), KIND(crc32), KIND(read_backup), KIND(write_primary), KIND(slot_sum), KIND(build), KIND(read_partition), KIND(read_partitions),
+    KIND(zero_entries), KIND(mbr_set), KIND(mbr_overwrite),
+};
+enum { KINDS = sizeof kinds / sizeof kinds[0] };
+
+static void must(bool fact, const char *what) {
+    if (fact) return;
+    printf("stack: %s\n", what);
+    exit(EXIT_FAILURE);
+}
+
+/* Lays the card again: all 128 slots used, in descending blocks, so that the check compares each with those before it. */
+static void fill(void) {
+    lay();
+    for (uint32_t slot = 1; slot <= 128; slot++) must(card_put(img, LEN, BLOCK, slot, in_block(162 - slot)).number == 0, "a put was refused");
+    header = gpt_read_primary_header(img, LEN, BLOCK).header;
+}
+
+static void *run(void *call) {
+    ((const kind *)call)->call();
+    return NULL;
+}
+
+/* Runs a call on a stack of its own. */
+static void on_stack(uint8_t *stack, size_t size, const kind *call) {
+    pthread_attr_t attr;
+    pthread_t id;
+    must(pthread_attr_init(&attr) == 0 && pthread_attr_setstack(&attr, stack, size) == 0, "a stack was not taken");
+    must(pthread_create(&id, &attr, run, (void *)call) == 0 && pthread_join(id, NULL) == 0, "a thread did not run");
+    pthread_attr_destroy(&attr);
+}
+
+static size_t painted(const kind *call) {
+    static uint8_t stack[ROOM] __attribute__((aligned(PAGE)));
+    size_t left = 0;
+    memset(stack, PAINT, ROOM);
+    on_stack(stack, ROOM, call);
+    while (left < ROOM && stack[left] == PAINT) left++;
+    return ROOM - left;
+}
+
+int main(void) {
+    static const kind none = KIND(nothing);
+    uint8_t *room = mmap(NULL, PAGE + THREAD, PROT_READ | PROT_WRITE, MAP_PRIVATE | MAP_ANONYMOUS, -1, 0);
+    must(room != MAP_FAILED && mprotect(room, PAGE, PROT_NONE) == 0, "no memory for a stack");
+    size_t own = painted(&none), most = 0;
+    int wrong = 0;
+    for (int k = 0; k < KINDS; k++) {
+        fill();
+        size_t need = painted(&kinds[k]) - own;
+        if (number != 0) printf("stack: %s was refused by %u\n", kinds[k].name, (unsigned)number);
+        wrong += number != 0;
+        if (need > most) most = need;
+        if (need <= CARD_STACK && own + need <= THREAD) {
+            fill();
+            on_stack(room + PAGE, THREAD, &kinds[k]);
+            continue;
+        }
+        wrong++;
+        printf("stack: %s needs %zu bytes\n", kinds[k].name, need);
+    }
+    if (wrong != 0) return EXIT_FAILURE;
+    printf("stack: a call needs at most %zu bytes, and the header says %d\n", most, CARD_STACK);
+    return EXIT_SUCCESS;
+}

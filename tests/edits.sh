@@ -1,0 +1,64 @@
+#!/bin/sh
+# An edit that must fail may change several functions at once, and rt asks only that some function be refused. This asks it of each one: what rt wrote of such an edit has to say
+# of every function that the edit changes that it is not proved, and not for the sake of another that it calls. It reads what `rt ci` or `rt must-fail` left, and is skipped where neither was run.
+# A word after its name has it pass over the edits that were not tried.
+cd "$(dirname "$0")/.." || exit 1
+if [ ! -d target/must-fail ]; then
+    echo "no edit was tried: rt ci tries them"
+    echo "edits: skipped, nothing to read"
+    exit
+fi
+status=0
+tried=0
+for edit in crates/*/must-fail/*.edit; do
+    crate=${edit#crates/}
+    crate=${crate%%/*}
+    label=$(basename "$edit" .edit)
+    log=target/must-fail/$crate/$label/.log
+    if [ ! -f "$log" ]; then
+        [ $# -gt 0 ] || { echo "edits: $crate/$label was not tried"; status=1; }
+        continue
+    fi
+    tried=$((tried + 1))
+    awk -v crate="$crate" -v label="$label" -v log_file="$log" '
+        # The function of a source file in which a text stands.
+        function function_of(file, old,    line, text, at, n, lines, k, name) {
+            text = ""
+            while ((getline line < file) > 0) text = text line "\n"
+            close(file)
+            at = index(text, old)
+            if (!at) return ""
+            n = split(substr(text, 1, at + length(old) - 1), lines, "\n")
+            for (k = n; k >= 1; k--)
+                if (lines[k] ~ /^ *(pub )?fn [a-z0-9_]+/) {
+                    name = lines[k]
+                    sub(/^ *(pub )?fn /, "", name)
+                    sub(/[^a-z0-9_].*$/, "", name)
+                    return name
+                }
+            return ""
+        }
+        /^file: / { file = substr($0, 7) }
+        /^old: / && file ~ /^src\// {
+            name = function_of("crates/" crate "/" file, substr($0, 6))
+            if (name != "" && !(name in changed)) { changed[name] = 1; count++ }
+        }
+        END {
+            if (count < 2) exit 0
+            while ((getline line < log_file) > 0)
+                if (line ~ /^fn [^ ]*: / && line !~ /^fn [^ ]*: proved/ && line !~ /it calls `/) {
+                    name = line
+                    sub(/^fn /, "", name)
+                    sub(/: .*$/, "", name)
+                    sub(/^.*::/, "", name)
+                    refused[name] = 1
+                }
+            for (name in changed)
+                if (!(name in refused)) { print "edits: " crate "/" label ": " name " is not refused by itself"; bad = 1 }
+            exit bad
+        }
+    ' "$edit" || status=1
+done
+[ "$tried" -gt 0 ] || { echo "edits: none was tried"; status=1; }
+[ "$status" -ne 0 ] || echo "edits: $tried tried, and each function that one changes is refused by itself"
+exit $status

@@ -1,0 +1,188 @@
+"""The card calls (document 01, The card calls)."""
+
+from collections import namedtuple
+
+import builder
+import entries
+import headers
+import mbr
+from sums import crc32
+from units import ALL_32, Refused, call, need_block_size
+
+SLOTS = 128
+ARRAY = 16384
+
+Card = namedtuple("Card", "last guid array usable used")
+
+
+def shape(img, b):
+    """Document 01, The card calls: 8, then 10 if N - 1 < 2A + 3. Gives N - 1, the backup's block."""
+    need_block_size(b)
+    last = headers.backup_block(len(img), b)
+    if last < 2 * (ARRAY // b) + 3:
+        raise Refused(10)
+    return last
+
+
+def laid_header(guid, last, primary, b):
+    """Document 01, Lay: the headers as the builder gives them for backup N - 1."""
+    return builder.built(builder.Settings(guid, last, 0, 0, SLOTS, entries.ENTRY, primary), 1, b)
+
+
+def store_tables(img, guid, last, array, b):
+    """Document 01, Lay and Put: both arrays, and both header blocks as lay would write them, with new sums."""
+    for primary in (1, 0):
+        header = laid_header(guid, last, primary, b)
+        start = header.part_start * b
+        img[start : start + ARRAY] = array
+        headers.store_header(img, header, b)
+
+
+@call(zero=(0,), lent=(0,))
+def card_lay(img, b, guid):
+    """Document 01, Lay: 8, 10; the protective MBR in bytes 0 to 511, both headers and zeroed arrays; nothing else changes."""
+    last = shape(img, b)
+    img[:512] = mbr.mbr_bytes(mbr.new_mbr(min(last, ALL_32)))
+    store_tables(img, guid, last, bytes(ARRAY), b)
+    return (0,)
+
+
+def checked_table(img, last, primary, b):
+    """Document 01, Card check: of one table 4, 5, then 16 if any field but GUID and sums differs from what lay would write, then 6."""
+    step = "front" if primary else "back"
+    header = headers.header_at(img, (1 if primary else last) * b, step)
+    laid = laid_header(header.disk_guid, last, primary, b)
+    if header._replace(crc32=0, crc32_parts=0) != laid:
+        raise Refused(16, step)
+    start = laid.part_start * b
+    array = bytes(img[start : start + ARRAY])
+    if crc32(array) != header.crc32_parts:
+        raise Refused(6, step)
+    return header, array
+
+
+def checked_entries(array, first, last):
+    """Document 01, Card check: 16 if an entry is neither all zero nor of non-nil type with first <= last inside the usable blocks, or two
+    share a block."""
+    used = {slot: entries.record_from(entries.entry_at(array, slot)) for slot in entries.present_slots(array)}
+    for record in used.values():
+        if not entries.used(record):
+            raise Refused(16, "nil type with bytes")
+        if record.last_lba < record.first_lba:
+            raise Refused(16, "last below first")
+        if record.first_lba < first or record.last_lba > last:
+            raise Refused(16, "outside usable")
+    ranges = sorted((record.first_lba, record.last_lba) for record in used.values())
+    if any(one[1] >= two[0] for one, two in zip(ranges, ranges[1:])):
+        raise Refused(16, "two share a block")
+    return used
+
+
+def check(img, b):
+    """Document 01, Card check: 8; 10; the primary table; the backup table; 17 if GUIDs or arrays differ; 16 of the entries."""
+    last = shape(img, b)
+    front, array = checked_table(img, last, 1, b)
+    back, other = checked_table(img, last, 0, b)
+    if front.disk_guid != back.disk_guid:
+        raise Refused(17, "disk GUID")
+    if array != other:
+        raise Refused(17, "arrays")
+    usable = (front.first_usable, front.last_usable)
+    return Card(last, front.disk_guid, array, usable, checked_entries(array, *usable))
+
+
+def need_slot(slot):
+    """Document 01, Numbers: 18 if a card's slot is outside 1..128."""
+    if not 1 <= slot <= SLOTS:
+        raise Refused(18)
+
+
+def store_slot(img, card, slot, raw, b):
+    """Document 01, Put and Clear: the slot's 128 bytes in both arrays; the other slots keep their bytes, the header blocks are rewritten."""
+    start = entries.ENTRY * (slot - 1)
+    array = card.array[:start] + raw + card.array[start + entries.ENTRY :]
+    store_tables(img, card.guid, card.last, array, b)
+
+
+@call(zero=(0,), lent=(0,))
+def card_check(img, b):
+    """Document 01, Card check."""
+    check(img, b)
+    return (0,)
+
+
+@call(zero=(0,), lent=(0,))
+def card_put(img, b, slot, record):
+    """Document 01, Put: the check, 18, 19, 20, 21, 22 with the lowest slot; name units after the first zero are cleared."""
+    card = check(img, b)
+    need_slot(slot)
+    if not entries.used(record):
+        raise Refused(19)
+    if record.last_lba < record.first_lba:
+        raise Refused(20)
+    if record.first_lba < card.usable[0] or record.last_lba > card.usable[1]:
+        raise Refused(21, "first" if record.first_lba < card.usable[0] else "last")
+    for other, held in sorted(card.used.items()):
+        if other != slot and held.first_lba <= record.last_lba and record.first_lba <= held.last_lba:
+            raise Refused(22, values=(other,))
+    store_slot(img, card, slot, entries.record_bytes(record._replace(name=entries.cleared(record.name))), b)
+    return (0,)
+
+
+@call(zero=(0,), lent=(0,))
+def card_clear(img, b, slot):
+    """Document 01, Clear: the check, 18; an empty slot is accepted, its header blocks rewritten too."""
+    card = check(img, b)
+    need_slot(slot)
+    store_slot(img, card, slot, bytes(entries.ENTRY), b)
+    return (0,)
+
+
+@call(zero=(0,), lent=(0, 4))
+def card_write_payload(img, b, slot, place, data):
+    """Document 01, Payload write: the check, 18, 23, 24; the place counts from the partition's first byte."""
+    card = check(img, b)
+    need_slot(slot)
+    if slot not in card.used:
+        raise Refused(23)
+    record = card.used[slot]
+    if place + len(data) > (record.last_lba - record.first_lba + 1) * b:
+        raise Refused(24)
+    start = record.first_lba * b + place
+    img[start : start + len(data)] = data
+    return (len(data),)
+
+
+@call(zero=(0,), lent=(0,))
+def card_count_used(img, b):
+    """Document 01, How much a contract has to say: the count is that of present entries."""
+    return (len(check(img, b).used),)
+
+
+@call(zero=(0,), lent=(0,))
+def card_next_used(img, b, after):
+    """card.h, card_next_used: the first used slot after a slot, or 0."""
+    return (entries.next_after(sorted(check(img, b).used), after),)
+
+
+@call(zero=(0, entries.ZERO), lent=(0,))
+def card_read_slot(img, b, slot):
+    """card.h, card_read_slot: the check, 18; whether the slot is present, and its record."""
+    card = check(img, b)
+    need_slot(slot)
+    return (int(slot in card.used), card.used.get(slot, entries.ZERO))
+
+
+@call(zero=(0, 0, entries.ZERO), lent=(0,))
+def card_nth_used(img, b, k):
+    """card.h, card_nth_used: the k-th used slot, counted from 0, ascending; where there is none, slot and record are zero."""
+    found = sorted(check(img, b).used.items())
+    return (1, *found[k]) if k < len(found) else (0, 0, entries.ZERO)
+
+
+@call(zero=(0,), lent=(0, 2))
+def card_list(img, b, out):
+    """Document 01, Listing: the check, then 15; the present entries into the lent row, as in reading the array."""
+    found = sorted(check(img, b).used.items())
+    entries.fill_rows(out, found)
+    return (len(found),)

@@ -1,0 +1,267 @@
+"""Arguments for each call. ON_IMAGE gives what follows the image; LOOSE gives all arguments of the calls that take no image."""
+
+import struct
+
+import headers
+import images
+import model
+from draws import BAD_BLOCK_SIZES, ENTRY_SIZES, SLOTS
+from sums import crc32
+
+
+def slot(draw, image, b):
+    """A slot: an edge, a used one or any."""
+    used = list(images.used_blocks(image, b))
+    return draw.pick(draw.pick((SLOTS, used or SLOTS, range(1, 129), range(1, 129))))
+
+
+def rows(draw, count):
+    """A lent row: exact, one byte short, longer, or of any length."""
+    exact = 136 * count
+    length = draw.pick((exact, exact, exact - 1, exact + 1, exact - 136, exact + 136 + draw.below(200), draw.below(300)))
+    return draw.data(max(length, 0))
+
+
+def put_record(draw, image, b):
+    """A record for put: on free ground, near the edges of the usable blocks, over a used slot, or any."""
+    card = images.places(len(image), b)
+    record = draw.record()
+    if card is None:
+        return record
+    free = images.free_blocks(image, b)
+    used = list(images.used_blocks(image, b).values())
+    kind = draw.below(12)
+    if kind < 6 and free:
+        first = draw.pick(free)
+        last = first
+        while last + 1 in free and draw.chance(40):
+            last += 1
+        return record._replace(first_lba=first, last_lba=last)
+    if kind < 8 and used:
+        first, last = draw.pick(used)
+        return record._replace(first_lba=first - draw.below(3), last_lba=last + draw.below(3))
+    if kind < 9 and used:
+        return record._replace(first_lba=min(draw.pick(used)), last_lba=max(draw.pick(used)))
+    if kind < 11:
+        return draw.record([card.first_usable, card.last_usable])
+    return record
+
+
+def payload(draw, image, b):
+    """A slot, a place and bytes: near the partition's end, at 0, or where their sum passes 64 bits."""
+    used = images.used_blocks(image, b)
+    at = slot(draw, image, b) if draw.chance(25) or not used else draw.pick(list(used))
+    first, last = used.get(at, (0, 0))
+    size = min(max(last - first + 1, 0) * b, 1 << 20)
+    place = draw.number(64, [0, size, size, max(size - 7, 0), size // 2])
+    left = max(size - place, 0)
+    length = draw.pick((0, 1, left - 1, left, left, left + 1, draw.below(600)))
+    if draw.chance(8):
+        length = 1 + draw.below(600)
+        place = 2**64 - 1 - draw.below(length)
+    return draw.block_size(b), at, place, draw.data(max(length, 0))
+
+
+def lent_header(draw, image, b):
+    """A header for the array calls: the image's own, one with a small array, or any; its array sum is right most times."""
+    card = images.places(len(image), b)
+    blocks = len(image) // b
+    kind = draw.below(10)
+    header = draw.header([1, 2, blocks - 1, blocks, 2**64 // b])
+    if kind < 5 and card:
+        place = draw.pick((card.front, card.back))
+        header = headers.header_from(image[place : place + 92])
+        header = header._replace(crc32_parts=crc32(image[header.part_start * b :][: 128 * header.num_parts])) if draw.chance(60) else header
+    elif kind < 8:
+        start = draw.below(blocks + 2) if draw.chance(80) else draw.number(64, [blocks, 2**64 // b])
+        fit = max((len(image) - start * b) // 128, 0)
+        count = draw.pick((0, 1, 4, fit, fit + 1, 129, draw.below(fit + 1)))
+        size = 128 if draw.chance(85) else draw.pick(ENTRY_SIZES)
+        header = header._replace(part_start=start, num_parts=count, part_size=size)
+    if draw.chance(20):
+        return header
+    length = header.num_parts * header.part_size
+    start = header.part_start * b
+    return header._replace(crc32_parts=crc32(image[start : start + length]) if start + length <= len(image) else 0)
+
+
+def header_to_write(draw, image, b):
+    """A header for the two header writes: places inside, at the end and outside the image, and sums that pass 64 bits."""
+    blocks = len(image) // b
+    header = lent_header(draw, image, b)
+    if draw.chance(60):
+        start = draw.pick((0, 1, 2, draw.below(blocks + 1)))
+        header = header._replace(part_start=start, num_parts=draw.pick((0, 1, 4, 128)), part_size=draw.pick((0, 1, 127, 128, 129, 256)))
+    if draw.chance(85):
+        near = [0, 1, max(blocks - 1, 0), blocks, 2**64 // b]
+        header = header._replace(current_lba=draw.number(64, near), backup_lba=draw.number(64, near))
+    return header
+
+
+def array_slot(draw, image, header, b):
+    """A slot of a read array: one that a card has in use, near the entry count, or any."""
+    used = list(images.used_blocks(image, b))
+    if used and draw.chance(40):
+        return draw.pick(used)
+    return draw.number(32, [0, 1, header.num_parts]) if draw.chance(50) else draw.pick(SLOTS + [1 + draw.below(128)])
+
+
+def device_write(draw, image, b):
+    """Index, start block and entry size of a device write, near the image's end and near 64 bits."""
+    size = draw.pick((128, 128, 1, 127, 129, 256, 4096)) if draw.chance(85) else draw.pick(ENTRY_SIZES)
+    blocks = len(image) // b
+    start = draw.below(blocks + 2) if draw.chance(70) else draw.number(64, [blocks, 2**64 // b])
+    fit = max((len(image) - start * b) // max(size, 1), 0)
+    near = [0, fit, 127, max(2**64 - start * b, 0) // max(size, 1), 2**64 // max(size, 1)]
+    return draw.number(64, near), start, size
+
+
+def write_entry(draw, image, b):
+    """The arguments of one entry's device write."""
+    index, start, size = device_write(draw, image, b)
+    return draw.record(), index, start, draw.block_size(b), size
+
+
+def write_zero_entries(draw, image, b):
+    """The arguments of zeroing entries, with counts near the image's end, none, and too long for 64 bits."""
+    index, start, size = device_write(draw, image, b)
+    left = max((len(image) - start * b) // max(size, 1) - index, 0)
+    room = max(2**64 - start * b - index * size, 0) // max(size, 1)
+    count = draw.number(64, [0, 1, left, left, room, 2**64 // max(size, 1)])
+    return index, count, start, draw.block_size(b), size
+
+
+def array_call(draw, image, b):
+    """The lent header and the block size of a call that reads an array."""
+    return lent_header(draw, image, b), draw.block_size(b)
+
+
+def array_slot_call(draw, image, b):
+    """The same with a slot."""
+    header, size = array_call(draw, image, b)
+    return header, size, array_slot(draw, image, header, b)
+
+
+def array_rows_call(draw, image, b):
+    """The same with a lent row."""
+    header, size = array_call(draw, image, b)
+    return header, size, rows(draw, model.CALLS["gpt_count_partitions"](image, header, size)[1][0])
+
+
+def list_call(draw, image, b):
+    """A block size and a lent row for the listing."""
+    return draw.block_size(b), rows(draw, model.CALLS["card_count_used"](image, b)[1][0])
+
+
+def size_only(draw, image, b):
+    """A block size alone."""
+    return (draw.block_size(b),)
+
+
+def size_and_slot(draw, image, b):
+    """A block size and a slot, or another 32-bit number."""
+    return draw.block_size(b), slot(draw, image, b)
+
+
+def header_write(draw, image, b):
+    """The header and the block size of a header write."""
+    return header_to_write(draw, image, b), draw.block_size(b)
+
+
+ON_IMAGE = {
+    "card_lay": lambda draw, image, b: (draw.block_size(b), draw.guid()),
+    "card_check": size_only,
+    "card_put": lambda draw, image, b: (*size_and_slot(draw, image, b), put_record(draw, image, b)),
+    "card_clear": size_and_slot,
+    "card_write_payload": payload,
+    "card_count_used": size_only,
+    "card_next_used": size_and_slot,
+    "card_read_slot": size_and_slot,
+    "card_nth_used": lambda draw, image, b: (draw.block_size(b), draw.number(32, [0, len(images.used_blocks(image, b))])),
+    "card_list": list_call,
+    "gpt_read_primary_header": size_only,
+    "gpt_read_backup_header": size_only,
+    "gpt_partentry_checksum": array_call,
+    "gpt_write_primary": header_write,
+    "gpt_write_backup": header_write,
+    "gpt_write_entry": write_entry,
+    "gpt_write_zero_entries": write_zero_entries,
+    "gpt_read_partition": array_slot_call,
+    "gpt_count_partitions": array_call,
+    "gpt_next_partition": array_slot_call,
+    "gpt_file_read_partitions": array_rows_call,
+    "gpt_mbr_from_image": size_only,
+    "gpt_mbr_overwrite": lambda draw, image, b: (draw.mbr(),),
+    "gpt_mbr_update_conservative": lambda draw, image, b: (draw.mbr(),),
+    "gpt_mbr_read_bootcode": lambda draw, image, b: (),
+    "gpt_mbr_write_bootcode": lambda draw, image, b: (draw.data(440),),
+    "gpt_mbr_read_disk_signature": lambda draw, image, b: (),
+    "gpt_mbr_write_disk_signature": lambda draw, image, b: (draw.data(4),),
+}
+
+
+def slot_sum(draw, b):
+    """Two pieces and a number of bytes after, near 1 MiB and near 64 bits."""
+    was = draw.data(draw.pick((128,) * 9 + (0, 127, 129)))
+    now = draw.pick((was, draw.data(128), draw.data(128), bytes(128), draw.data(draw.pick((0, 127, 129, 128)))))
+    near_limit = (1048447, 1048448, 1048449, 2**20, 2**63, 2**64 - 128, 2**64 - 1)
+    after = draw.pick((0, 1, 127, 128, 16256, 128 * draw.below(128), draw.below(3000), *near_limit))
+    return draw.pick((crc32(was + bytes(min(after, 2**20))), draw.number(32))), was, now, after
+
+
+def mbr_buffer(draw, b):
+    """A buffer for parsing an MBR: of one block, near it, with and without 55 AA."""
+    length = draw.pick((b, b, b, b - 1, b + 1, 512, 4096, 0, 511))
+    data = draw.data(length)
+    if length >= 512 and draw.chance(80):
+        data = data[:510] + b"\x55\xaa" + data[512:]
+    elif length >= 512:
+        data = data[:510] + draw.pick((b"\xaa\x55", b"\x55\x00", b"\x00\xaa", b"\x55\xab")) + data[512:]
+    return data, draw.block_size(b)
+
+
+def entry_bytes(draw, b):
+    """Bytes of an entry, at times too few, with names that have zeros inside."""
+    record = draw.record()
+    raw = struct.pack("<36H", *record.name)
+    data = draw.data(56) + raw + draw.data(draw.pick((0, 0, 1, 128)))
+    return (data if draw.chance(75) else data[: draw.pick((0, 1, 55, 127))],)
+
+
+def image_length(draw, b):
+    """A length of an image and a block size."""
+    return draw.number(64, [0, b, 3 * b, 3 * b + 64, 4 * b, 68 * b, 2**64 - b]), draw.block_size(b)
+
+
+def range_record(draw, b):
+    """A record whose block count or byte count is near 64 bits at times."""
+    return draw.record([0, 34, 2**64 // b, 2**64 - 1])
+
+
+def any_block_size(draw, b):
+    """A block size for the calls that take one beside a record."""
+    return b if draw.chance(90) else draw.pick(BAD_BLOCK_SIZES)
+
+
+LOOSE = {
+    "gpt_crc32": lambda draw, b: (draw.data(draw.pick((0, 1, 3, 15, 16, 17, 92, 128, draw.below(3000)))),),
+    "gpt_slot_sum": slot_sum,
+    "gpt_find_backup_lba": image_length,
+    "gpt_settings_new": lambda draw, b: (draw.guid(),),
+    "gpt_build": lambda draw, b: (draw.settings(b), any_block_size(draw, b)),
+    "gpt_build_from_header": lambda draw, b: (draw.header_to_copy(b), any_block_size(draw, b)),
+    "gpt_entry_from_bytes": entry_bytes,
+    "gpt_entry_to_bytes": lambda draw, b: (draw.data(draw.pick((0, 1, 15, 127, 128, 129, 256, 4096, draw.below(300)))), draw.record()),
+    "gpt_is_used": lambda draw, b: (draw.record(),),
+    "gpt_sectors_len": lambda draw, b: (range_record(draw, b),),
+    "gpt_bytes_len": lambda draw, b: (range_record(draw, b), any_block_size(draw, b)),
+    "gpt_bytes_start": lambda draw, b: (range_record(draw, b), any_block_size(draw, b)),
+    "gpt_mbr_new": lambda draw, b: (draw.number(32),),
+    "gpt_mbr_protective_record": lambda draw, b: (draw.number(32),),
+    "gpt_mbr_from_bytes": mbr_buffer,
+    "gpt_mbr_record_from_bytes": lambda draw, b: (draw.data(draw.pick((16, 16, 16, 0, 15, 17, 32))),),
+    "gpt_mbr_record_to_bytes": lambda draw, b: (draw.mbr_record(),),
+    "gpt_mbr_to_bytes": lambda draw, b: (draw.mbr(),),
+    "gpt_mbr_record": lambda draw, b: (draw.mbr(), draw.pick((0, 1, 2, 3, 4, 5, 2**32, 2**63, 2**64 - 1))),
+    "gpt_mbr_set_record": lambda draw, b: (draw.mbr(), draw.pick((0, 1, 2, 3, 4, 2**32, 2**64 - 1)), draw.mbr_record()),
+}

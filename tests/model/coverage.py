@@ -1,0 +1,114 @@
+"""How often each number, and each of several tests with one number, was seen; and which must be seen, from card.h and document 01."""
+
+from collections import Counter
+
+CHECK = {0, 1, 8, 10, 4, 5, 16, 6, 17}
+NUMBERS = {
+    "card_lay": {0, 1, 8, 10},
+    "card_check": CHECK,
+    "card_put": CHECK | {18, 19, 20, 21, 22},
+    "card_clear": CHECK | {18},
+    "card_write_payload": CHECK | {18, 23, 24},
+    "card_count_used": CHECK,
+    "card_next_used": CHECK,
+    "card_read_slot": CHECK | {18},
+    "card_nth_used": CHECK,
+    "card_list": CHECK | {15},
+    "gpt_crc32": {0},
+    "gpt_read_primary_header": {0, 1, 2, 4, 5},
+    "gpt_read_backup_header": {0, 1, 8, 4, 5},
+    "gpt_find_backup_lba": {0, 1, 8},
+    "gpt_partentry_checksum": {0, 1, 3, 2},
+    "gpt_slot_sum": {0, 2, 3},
+    "gpt_write_primary": {0, 1, 11, 3, 2},
+    "gpt_write_backup": {0, 1, 11, 3, 2},
+    "gpt_settings_new": {0},
+    "gpt_build": {0, 1, 9, 3, 10},
+    # A builder that was copied from a header has the lower of its two blocks as the primary, so 9 cannot come.
+    "gpt_build_from_header": {0, 1, 3, 10},
+    "gpt_entry_from_bytes": {0, 2},
+    "gpt_entry_to_bytes": {0},
+    "gpt_is_used": {0},
+    "gpt_sectors_len": {0, 20, 3},
+    "gpt_bytes_len": {0, 1, 20, 3},
+    "gpt_bytes_start": {0, 1, 3},
+    "gpt_write_entry": {0, 1, 7, 3, 2},
+    "gpt_write_zero_entries": {0, 1, 7, 3, 2},
+    "gpt_read_partition": {0, 1, 3, 7, 2, 6, 18},
+    "gpt_count_partitions": {0, 1, 3, 7, 2, 6},
+    "gpt_next_partition": {0, 1, 3, 7, 2, 6},
+    "gpt_file_read_partitions": {0, 1, 3, 7, 2, 6, 15},
+    "gpt_mbr_new": {0},
+    "gpt_mbr_protective_record": {0},
+    "gpt_mbr_from_bytes": {0, 1, 12, 13},
+    "gpt_mbr_from_image": {0, 1, 2, 13},
+    "gpt_mbr_record_from_bytes": {0, 14},
+    "gpt_mbr_record_to_bytes": {0},
+    "gpt_mbr_to_bytes": {0},
+    "gpt_mbr_record": {0, 18},
+    "gpt_mbr_set_record": {0, 18},
+    "gpt_mbr_overwrite": {0, 2},
+    "gpt_mbr_update_conservative": {0, 2},
+    "gpt_mbr_read_bootcode": {0, 2},
+    "gpt_mbr_write_bootcode": {0, 2},
+    "gpt_mbr_read_disk_signature": {0, 2},
+    "gpt_mbr_write_disk_signature": {0, 2},
+}
+CHECK_STEPS = {(number, side) for number in (4, 5, 16, 6) for side in ("front", "back")} | {
+    (17, "disk GUID"),
+    (17, "arrays"),
+    (16, "nil type with bytes"),
+    (16, "last below first"),
+    (16, "outside usable"),
+    (16, "two share a block"),
+}
+PRODUCTS = {(3, step) for step in ("start product", "index product", "sum of the products", "end")}
+WRITES = {(3, "array start"), (2, "array"), (3, "own place"), (2, "own place")}
+BUILDS = {(3, "count times size"), (10, "backup too early"), (10, "first above last"), (3, "array start")}
+STEPS = {
+    "card_check": CHECK_STEPS,
+    "card_put": CHECK_STEPS | {(21, "first"), (21, "last")},
+    "gpt_slot_sum": {(2, "was"), (2, "is")},
+    "gpt_write_primary": WRITES,
+    "gpt_write_backup": WRITES,
+    "gpt_build": BUILDS,
+    "gpt_build_from_header": BUILDS,
+    "gpt_bytes_len": {(3, "count"), (3, "product")},
+    "gpt_write_entry": PRODUCTS,
+    "gpt_write_zero_entries": PRODUCTS | {(3, "zeroed length")},
+}
+
+
+class Coverage:
+    """Counts of what the model answered."""
+
+    def __init__(self):
+        self.numbers = {name: Counter() for name in NUMBERS}
+        self.steps = {name: Counter() for name in NUMBERS}
+
+    def saw(self, name, number, step):
+        """One compared call."""
+        self.numbers[name][number] += 1
+        if step:
+            self.steps[name][number, step] += 1
+
+    def total(self):
+        """How many calls were compared."""
+        return sum(sum(counts.values()) for counts in self.numbers.values())
+
+    def table(self):
+        """One line for each call: how often each of its numbers was seen, in the order of the numbers."""
+        for name, counts in self.numbers.items():
+            seen = "  ".join(f"{number}: {counts[number]}" for number in sorted(NUMBERS[name] | set(counts)))
+            yield f"{name:30}{seen}"
+
+    def missing(self):
+        """What must be seen and was not, and any number that a call may not give."""
+        for name, due in NUMBERS.items():
+            for number in sorted(due - set(self.numbers[name])):
+                yield f"{name}: {number} was never seen"
+            for number in sorted(set(self.numbers[name]) - due):
+                yield f"{name}: {number} is not one of its numbers"
+        for name, due in STEPS.items():
+            for number, step in sorted(due - set(self.steps[name])):
+                yield f"{name}: {number} ({step}) was never seen"

@@ -1,0 +1,254 @@
+"""The built library, called as card.h declares it. Each call has the name, the arguments and the shape of answer that the model's call has."""
+
+import ctypes
+import os
+from ctypes import POINTER, c_size_t, c_uint8, c_uint16, c_uint32, c_uint64
+
+import builder
+import entries
+import headers
+import mbr
+import units
+
+GUARD = b"\xa5" * 32
+LENT = "a lent slice: a pointer, then a length"
+SHAPES = {}
+
+
+class LayoutError(Exception):
+    """A structure or a lent buffer is not as card.h says."""
+
+
+def structure(name, size, fields, shape=None):
+    """A C structure with card.h's size and places, which are tried here. shape is the model's tuple for it."""
+    kind = type(name, (ctypes.Structure,), {"_fields_": [(field, ctype) for field, ctype, _ in fields]})
+    if ctypes.sizeof(kind) != size:
+        raise LayoutError(f"the size of {name} is {ctypes.sizeof(kind)}, not {size}")
+    if shape and shape._fields != tuple(field for field, _, _ in fields):
+        raise LayoutError(f"the fields of {name} are not the model's")
+    for field, _, place in fields:
+        if getattr(kind, field).offset != place:
+            raise LayoutError(f"the place of {field} in {name} is {getattr(kind, field).offset}, not {place}")
+    SHAPES[kind] = shape
+    return kind
+
+
+def fields_of(ctype, *names, start=0):
+    """Fields of one type that follow each other without a gap."""
+    return [(name, ctype, start + i * ctypes.sizeof(ctype)) for i, name in enumerate(names)]
+
+
+def answer(name, size, *fields):
+    """An answer: the number first, then its fields. A bool is read as a byte, so that only 0 and 1 pass for one."""
+    return structure(name, size, [("number", c_uint32, 0), *fields])
+
+
+GUID = structure(
+    "gpt_guid",
+    16,
+    [("time_low", c_uint32, 0), ("time_mid", c_uint16, 4), ("time_high", c_uint16, 6), ("tail", c_uint8 * 8, 8)],
+    units.Guid,
+)
+PARTITION = structure(
+    "gpt_partition",
+    128,
+    [
+        *fields_of(GUID, "part_type_guid", "part_guid"),
+        *fields_of(c_uint64, "first_lba", "last_lba", "flags", start=32),
+        ("name", c_uint16 * 36, 56),
+    ],
+    entries.Partition,
+)
+REVISION = structure("gpt_revision", 4, fields_of(c_uint16, "major", "minor"), headers.Revision)
+HEADER = structure(
+    "gpt_header",
+    88,
+    [
+        ("revision", REVISION, 0),
+        *fields_of(c_uint32, "header_size_le", "crc32", "reserved", start=4),
+        *fields_of(c_uint64, "current_lba", "backup_lba", "first_usable", "last_usable", start=16),
+        ("disk_guid", GUID, 48),
+        ("part_start", c_uint64, 64),
+        *fields_of(c_uint32, "num_parts", "part_size", "crc32_parts", start=72),
+    ],
+    headers.Header,
+)
+RECORD = structure(
+    "gpt_part_record",
+    16,
+    [*fields_of(c_uint8, *mbr.PartRecord._fields[:8]), *fields_of(c_uint32, "lb_start", "lb_size", start=8)],
+    mbr.PartRecord,
+)
+MBR = structure(
+    "gpt_mbr",
+    512,
+    [("bootcode", c_uint8 * 440, 0), ("disk_signature", c_uint8 * 4, 440), ("unknown", c_uint16, 444), ("partitions", RECORD * 4, 448)],
+    mbr.Mbr,
+)
+SETTINGS = structure(
+    "gpt_settings",
+    56,
+    [
+        ("disk_guid", GUID, 0),
+        *fields_of(c_uint64, "backup_lba", "first_usable", "last_usable", start=16),
+        *fields_of(c_uint32, "num_parts", "part_size", start=40),
+        ("primary", c_uint8, 48),
+    ],
+    builder.Settings,
+)
+BOOTCODE = structure("gpt_bootcode", 440, [("bytes", c_uint8 * 440, 0)])
+SIGNATURE = structure("gpt_signature", 4, [("bytes", c_uint8 * 4, 0)])
+RECORD_BYTES = structure("gpt_record_bytes", 16, [("bytes", c_uint8 * 16, 0)])
+MBR_BYTES = structure("gpt_mbr_bytes", 512, [("bytes", c_uint8 * 512, 0)])
+
+CARD_ANSWER = answer("card_answer", 8, ("slot", c_uint32, 4))
+STORED = answer("gpt_stored", 16, ("bytes", c_uint64, 8))
+COUNT = answer("gpt_count", 8, ("count", c_uint32, 4))
+NEXT = answer("gpt_next", 8, ("slot", c_uint32, 4))
+SLOT_READ = answer("gpt_slot_read", 136, ("present", c_uint8, 4), ("partition", PARTITION, 8))
+USED_READ = answer("card_used_read", 144, ("found", c_uint8, 4), ("slot", c_uint32, 8), ("partition", PARTITION, 16))
+HEADER_READ = answer("gpt_header_read", 96, ("header", HEADER, 8))
+BLOCK = answer("gpt_block", 16, ("lba", c_uint64, 8))
+SUM = answer("gpt_sum", 8, ("sum", c_uint32, 4))
+HEADER_WRITTEN = answer("gpt_header_written", 104, ("bytes", c_uint64, 8), ("header", HEADER, 16))
+ENTRY_READ = answer("gpt_entry_read", 136, ("partition", PARTITION, 8))
+LENGTH = answer("gpt_length", 16, ("length", c_uint64, 8))
+PLACE = answer("gpt_place", 16, ("place", c_uint64, 8))
+MBR_READ = answer("gpt_mbr_read", 516, ("mbr", MBR, 4))
+RECORD_READ = answer("gpt_record_read", 20, ("part_record", RECORD, 4))
+RECORD_SET = answer("gpt_record_set", 532, ("old", RECORD, 4), ("mbr", MBR, 20))
+BOOTCODE_READ = answer("gpt_bootcode_read", 444, ("bootcode", c_uint8 * 440, 4))
+SIGNATURE_READ = answer("gpt_signature_read", 8, ("disk_signature", c_uint8 * 4, 4))
+# Each row of a listing is written as bytes by the model; the structure is here so that its places are tried too.
+ROW = structure("card_row", 136, [("slot", c_uint64, 0), ("partition", PARTITION, 8)])
+
+DECLARED = {
+    "card_lay": (CARD_ANSWER, LENT, c_uint64, GUID),
+    "card_check": (CARD_ANSWER, LENT, c_uint64),
+    "card_put": (CARD_ANSWER, LENT, c_uint64, c_uint32, PARTITION),
+    "card_clear": (CARD_ANSWER, LENT, c_uint64, c_uint32),
+    "card_write_payload": (STORED, LENT, c_uint64, c_uint32, c_size_t, LENT),
+    "card_count_used": (COUNT, LENT, c_uint64),
+    "card_next_used": (NEXT, LENT, c_uint64, c_uint32),
+    "card_read_slot": (SLOT_READ, LENT, c_uint64, c_uint32),
+    "card_nth_used": (USED_READ, LENT, c_uint64, c_uint32),
+    "card_list": (COUNT, LENT, c_uint64, LENT),
+    "gpt_crc32": (c_uint32, LENT),
+    "gpt_read_primary_header": (HEADER_READ, LENT, c_uint64),
+    "gpt_read_backup_header": (HEADER_READ, LENT, c_uint64),
+    "gpt_find_backup_lba": (BLOCK, c_size_t, c_uint64),
+    "gpt_partentry_checksum": (SUM, LENT, HEADER, c_uint64),
+    "gpt_slot_sum": (SUM, c_uint32, LENT, LENT, c_size_t),
+    "gpt_write_primary": (HEADER_WRITTEN, LENT, HEADER, c_uint64),
+    "gpt_write_backup": (HEADER_WRITTEN, LENT, HEADER, c_uint64),
+    "gpt_settings_new": (SETTINGS, GUID),
+    "gpt_build": (HEADER_READ, SETTINGS, c_uint64),
+    "gpt_build_from_header": (HEADER_READ, HEADER, c_uint64),
+    "gpt_entry_from_bytes": (ENTRY_READ, LENT),
+    "gpt_entry_to_bytes": (None, LENT, PARTITION),
+    "gpt_is_used": (c_uint8, PARTITION),
+    "gpt_sectors_len": (LENGTH, PARTITION),
+    "gpt_bytes_len": (LENGTH, PARTITION, c_uint64),
+    "gpt_bytes_start": (PLACE, PARTITION, c_uint64),
+    "gpt_write_entry": (STORED, LENT, PARTITION, c_uint64, c_uint64, c_uint64, c_uint32),
+    "gpt_write_zero_entries": (STORED, LENT, c_uint64, c_uint64, c_uint64, c_uint64, c_uint32),
+    "gpt_read_partition": (SLOT_READ, LENT, HEADER, c_uint64, c_uint32),
+    "gpt_count_partitions": (COUNT, LENT, HEADER, c_uint64),
+    "gpt_next_partition": (NEXT, LENT, HEADER, c_uint64, c_uint32),
+    "gpt_file_read_partitions": (COUNT, LENT, HEADER, c_uint64, LENT),
+    "gpt_mbr_new": (MBR, c_uint32),
+    "gpt_mbr_protective_record": (RECORD, c_uint32),
+    "gpt_mbr_from_bytes": (MBR_READ, LENT, c_uint64),
+    "gpt_mbr_from_image": (MBR_READ, LENT, c_uint64),
+    "gpt_mbr_record_from_bytes": (RECORD_READ, LENT),
+    "gpt_mbr_record_to_bytes": (RECORD_BYTES, RECORD),
+    "gpt_mbr_to_bytes": (MBR_BYTES, MBR),
+    "gpt_mbr_record": (RECORD_READ, MBR, c_size_t),
+    "gpt_mbr_set_record": (RECORD_SET, MBR, c_size_t, RECORD),
+    "gpt_mbr_overwrite": (STORED, LENT, MBR),
+    "gpt_mbr_update_conservative": (STORED, LENT, MBR),
+    "gpt_mbr_read_bootcode": (BOOTCODE_READ, LENT),
+    "gpt_mbr_write_bootcode": (STORED, LENT, BOOTCODE),
+    "gpt_mbr_read_disk_signature": (SIGNATURE_READ, LENT),
+    "gpt_mbr_write_disk_signature": (STORED, LENT, SIGNATURE),
+}
+
+
+class Lent:
+    """A copy of some bytes with guard bytes on both sides, at an address that need not be even."""
+
+    def __init__(self, data):
+        self.front = len(GUARD) + len(data) % 7
+        self.end = self.front + len(data)
+        self.memory = bytearray(GUARD + GUARD[: len(data) % 7] + data + GUARD)
+        self.whole = (c_uint8 * len(self.memory)).from_buffer(self.memory)
+
+    def pointer(self):
+        """The address of the first lent byte."""
+        return ctypes.cast(ctypes.addressof(self.whole) + self.front, POINTER(c_uint8))
+
+    def content(self):
+        """The lent bytes as they are now; a changed guard byte is an error."""
+        if self.memory[: self.front].strip(b"\xa5") or self.memory[self.end :] != GUARD:
+            raise LayoutError("a byte outside a lent slice was written")
+        return bytes(self.memory[self.front : self.end])
+
+
+def native(ctype, value):
+    """A value of the model as the C value of that type."""
+    if issubclass(ctype, ctypes.Array):
+        return ctype(*(native(ctype._type_, item) for item in value)) if SHAPES.get(ctype._type_) else ctype(*value)
+    if issubclass(ctype, ctypes.Structure):
+        values = value if SHAPES[ctype] else (value,)
+        return ctype(*(native(kind, item) for (_, kind), item in zip(ctype._fields_, values)))
+    return value
+
+
+def plain(ctype, value):
+    """A C value as the model's: tuples for structures, bytes for bytes."""
+    if issubclass(ctype, ctypes.Array):
+        if ctype._type_ is c_uint8:
+            return bytes(value)
+        return tuple(plain(ctype._type_, item) for item in value)
+    if issubclass(ctype, ctypes.Structure):
+        values = [plain(kind, getattr(value, field)) for field, kind in ctype._fields_]
+        return SHAPES[ctype](*values) if SHAPES[ctype] else tuple(values)
+    return value
+
+
+def answered(result, value):
+    """The number and the other fields of what a call came back with."""
+    if result is None:
+        return 0, ()
+    if not issubclass(result, ctypes.Structure):
+        return 0, (value,)
+    values = tuple(plain(result, value))
+    return (values[0], values[1:]) if result._fields_[0][0] == "number" else (0, values)
+
+
+def bind(function, result, *kinds):
+    """One call of the library with the model's arguments and answer."""
+    slices = [[POINTER(c_uint8), c_size_t] if kind is LENT else [kind] for kind in kinds]
+    function.argtypes = [kind for kinds_here in slices for kind in kinds_here]
+    function.restype = result
+
+    def run(*args):
+        if len(args) != len(kinds):
+            raise TypeError(f"{len(kinds)} arguments are due")
+        lent, given = [], []
+        for kind, arg in zip(kinds, args):
+            if kind is LENT:
+                lent.append(Lent(bytes(arg)))
+                given += [lent[-1].pointer(), len(arg)]
+            else:
+                given.append(native(kind, arg))
+        number, values = answered(result, function(*given))
+        return number, values, tuple(piece.content() for piece in lent)
+
+    return run
+
+
+def load(path):
+    """All calls of the library at a path, by name."""
+    library = ctypes.CDLL(os.path.abspath(path))
+    return {name: bind(getattr(library, name), *declared) for name, declared in DECLARED.items()}

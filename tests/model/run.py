@@ -1,0 +1,190 @@
+"""Runs the model against the library: random, damaged and edge images, each call compared in its answer and in every lent byte."""
+
+import argparse
+import pathlib
+import secrets
+import sys
+import time
+
+import cases
+import compare
+import coverage
+import damage
+import fixed
+import images
+import library
+import model
+from draws import Draw
+from fixed import GUID
+
+BUILT = pathlib.Path(__file__).resolve().parents[2] / "target" / "lib" / "libcard.so"
+LENGTHS = [0, 1, 15, 439, 440, 443, 444, 511, 512, 513, 603, 604, 1024, 1535, 1536, 1600, 4095, 4096, 4097, 4187, 4188, 8192, 12287, 12288]
+
+
+class Difference(Exception):
+    """The library and the model answered differently."""
+
+    def __init__(self, case):
+        super().__init__(case.name)
+        self.case = case
+
+
+class Finished(Exception):
+    """The time or the number of calls is used up."""
+
+
+class Rounds:
+    """Images and calls on them, drawn from one seed, until the time or the number of calls is used up."""
+
+    def __init__(self, calls, seed, seconds, count):
+        self.calls = calls
+        self.draw = Draw(seed)
+        self.end = None if count else time.monotonic() + seconds
+        self.count = count
+        self.seen = coverage.Coverage()
+        self.compared = 0
+
+    def judge(self, steps, image, name, args):
+        """Compares one call; gives the model's answer. Without steps the call takes no image."""
+        if self.compared >= self.count if self.count else time.monotonic() > self.end:
+            raise Finished
+        self.compared += 1
+        given = (image, *args) if steps else args
+        right = model.CALLS[name](*given)
+        self.seen.saw(name, right[0], model.CALLS[name].step)
+        if compare.library_answer(self.calls, name, given) != right:
+            raise Difference(compare.Case(list(steps), name, args))
+        return right
+
+    def change(self, steps, image, name, args):
+        """Compares a call that changes the image, adds it to the steps and gives the new image."""
+        answer = self.judge(steps, image, name, args)
+        if answer[0] == 0:
+            steps.append(("call", name, *args))
+        return answer[2][0]
+
+    def ask(self, steps, image, b, how_many):
+        """Some calls on one image, with arguments of their own; the image stays."""
+        names = list(cases.ON_IMAGE)
+        for _ in range(how_many):
+            name = self.draw.pick(names)
+            self.judge(steps, image, name, cases.ON_IMAGE[name](self.draw, image, b))
+
+    def ask_loose(self, b, how_many):
+        """Some calls that take no image."""
+        names = list(cases.LOOSE)
+        for _ in range(how_many):
+            name = self.draw.pick(names)
+            self.judge([], None, name, cases.LOOSE[name](self.draw, b))
+
+    def start(self, b):
+        """The first step of an image: its length and its filling."""
+        draw = self.draw
+        room = (2 * (16384 // b) + 4) * b
+        kind = draw.below(10)
+        if kind < 2:
+            edges = [b - 1, b, b + 91, b + 92, 2 * b - 1, 2 * b, 3 * b - 1, 3 * b, room - b, room - 1]
+            length = draw.pick(LENGTHS if draw.chance(40) else edges)
+        elif kind < 5:
+            length = room + draw.pick((0, 1, b - 1, b))
+        else:
+            length = room + draw.below(24) * b + draw.pick((0, 0, 0, 1, b - 1))
+        return ("start", length, 0 if draw.chance(40) else 1 + draw.below(1 << 32))
+
+    def history(self, steps, image, b):
+        """A laid card with puts, clears and payload writes, at times with all 128 slots used."""
+        draw = self.draw
+        image = self.change(steps, image, "card_lay", (b, draw.guid()))
+        for _ in range(draw.pick((0, 1, 3, 6, 12, 24))):
+            name = draw.pick(("card_put", "card_put", "card_put", "card_put", "card_clear", "card_write_payload", "card_write_payload"))
+            image = self.change(steps, image, name, cases.ON_IMAGE[name](draw, image, b))
+        return image
+
+    def full_table(self, b):
+        """A card with 128 used slots of one block each, in any order of blocks."""
+        draw = self.draw
+        first = 2 + 16384 // b
+        steps = [("start", (2 * first + 128) * b + draw.below(b), 0)]
+        image = self.change(steps, images.made(steps), "card_lay", (b, draw.guid()))
+        blocks = list(range(first, first + 128))
+        draw.random.shuffle(blocks)
+        for slot, block in enumerate(blocks, 1):
+            record = draw.record()._replace(part_type_guid=GUID, first_lba=block, last_lba=block)
+            image = self.change(steps, image, "card_put", (b, slot, record))
+        self.ask(steps, image, b, 40)
+
+    def round(self):
+        """One image with its history, calls on it, and calls on damaged copies of it."""
+        draw = self.draw
+        b = draw.pick((512, 512, 4096))
+        steps = [self.start(b)]
+        image = images.made(steps)
+        if draw.chance(90):
+            image = self.history(steps, image, b)
+        self.ask(steps, image, b, 14)
+        for _ in range(8):
+            hurt = damage.damage(draw, image, b)
+            hurt_image = images.made_from(image, hurt)
+            self.judge(steps + hurt, hurt_image, "card_check", (b,))
+            self.ask(steps + hurt, hurt_image, b, 6)
+        self.ask_loose(b, 30)
+
+    def run(self):
+        """Rounds until the end, a full table now and then."""
+        rounds = 0
+        try:
+            while True:
+                if rounds % 25 == 3:
+                    self.full_table(self.draw.pick((512, 4096)))
+                self.round()
+                rounds += 1
+        except Finished:
+            return
+
+
+def options():
+    """The command line."""
+    parser = argparse.ArgumentParser(description=__doc__)
+    parser.add_argument("--seed", type=int, default=None, help="the number that determines all random values")
+    parser.add_argument("--seconds", type=float, default=30, help="how long to run")
+    parser.add_argument("--cases", type=int, default=0, help="how many calls to compare, in place of a time")
+    parser.add_argument("--library", default=str(BUILT), help="the library to try")
+    return parser.parse_args()
+
+
+def fixed_cases(calls):
+    """Tries the cases with known answers; gives whether all were right."""
+    lines = [f"model: {line}" for line in fixed.wrong(model.CALLS)]
+    lines += [f"library: {line}" for line in fixed.wrong(calls)]
+    lines += list(fixed.wrong_sums())
+    print("\n".join(lines) if lines else "the cases with known answers are right")
+    return not lines
+
+
+def main():
+    """Prints the seed, runs, prints the coverage and ends with 1 on a difference or on a number that was never seen."""
+    given = options()
+    seed = secrets.randbelow(1 << 32) if given.seed is None else given.seed
+    print(f"seed {seed}", flush=True)
+    if not pathlib.Path(given.library).is_file():
+        print(f"there is no library at {given.library}: make lib builds it")
+        return 1
+    calls = library.load(given.library)
+    if not fixed_cases(calls):
+        return 1
+    rounds = Rounds(calls, seed, given.seconds, given.cases)
+    try:
+        rounds.run()
+    except Difference as difference:
+        print("\n".join(compare.told(calls, compare.shrink(calls, difference.case))))
+        print(f"model: {rounds.compared} calls compared, a difference (seed {seed})")
+        return 1
+    print("\n".join(rounds.seen.table()))
+    missing = list(rounds.seen.missing())
+    print("\n".join(missing) if missing else "each number of each call was seen")
+    print(f"model: {rounds.compared} calls compared, 0 differences (seed {seed})")
+    return 1 if missing else 0
+
+
+if __name__ == "__main__":
+    sys.exit(main())

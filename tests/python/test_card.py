@@ -1,0 +1,346 @@
+"""The Python module beside what it promises: which buffers it takes, what it refuses before the library is called, that a refused call changes no byte,
+that nothing large is copied, and where it finds the library. It ends with "python: N tests ok", or with exit status 1.
+"""
+import array
+import concurrent.futures
+import contextlib
+import copy
+import ctypes
+import mmap
+import os
+import pathlib
+import pickle
+import re
+import shutil
+import subprocess
+import sys
+import tempfile
+import tracemalloc
+import unittest
+import uuid
+
+ROOT = pathlib.Path(__file__).resolve().parent.parent.parent
+MODULE = ROOT / "hosts" / "python" / "card.py"
+sys.path.insert(0, str(MODULE.parent))
+sys.dont_write_bytecode = True
+import card  # noqa: E402 (the module is found by the lines above)
+
+DISK = uuid.UUID("5a3f1c20-11e7-4b6d-9c04-0242ac110000")
+LARGE = 16 << 20
+
+
+def record(first, last, name="map", **more):
+    return card.Record(type=more.pop("type", card.BASIC_DATA), guid=uuid.UUID(int=1), first=first, last=last, name=name, **more)
+
+
+def laid(blocks=100, size=512):
+    image = bytearray(b"\xa5") * (blocks * size)
+    card.lay(image, size, DISK)
+    return image
+
+
+def filled():
+    """A card of 100 blocks with slot 3 in blocks 40 to 41."""
+    image = laid()
+    card.put(image, 512, 3, record(40, 41))
+    return image
+
+
+@contextlib.contextmanager
+def large_image():
+    """A card of 16 MiB and some blocks in a file, and one partition of 16 MiB on it. It gives the open file and its map."""
+    with tempfile.TemporaryFile() as file:
+        file.truncate(LARGE + 68 * 512)
+        with mmap.mmap(file.fileno(), 0) as image:
+            card.lay(image, 512, DISK)
+            card.put(image, 512, 1, record(34, 33 + LARGE // 512))
+            yield file, image
+
+
+@contextlib.contextmanager
+def little_memory(test):
+    """What runs inside takes less than 1 MiB of the interpreter's memory."""
+    tracemalloc.start()
+    try:
+        yield
+        test.assertLess(tracemalloc.get_traced_memory()[1], 1 << 20)
+    finally:
+        tracemalloc.stop()
+
+
+def refuse_in_a_process():
+    card.clear(bytearray(3 * 512), 512, 1)
+
+
+def collide_in_a_process():
+    card.put(filled(), 512, 1, record(41, 41))
+
+
+class Buffers(unittest.TestCase):
+    def test_the_size_is_counted_in_bytes(self):
+        numbers = array.array("I", [0]) * (68 * 512)
+        card.lay(numbers, 512, DISK)
+        data = numbers.tobytes()
+        self.assertEqual(len(data), 4 * 68 * 512)
+        self.assertEqual(data[-512:-504], b"EFI PART")
+        card.check(data, 512)
+        card.put(numbers, 512, 1, record(34, 4 * 68 - 35))
+        self.assertEqual([entry.slot for entry in card.listing(numbers, 512)], [1])
+
+    def test_a_payload_is_counted_in_bytes(self):
+        image = filled()
+        self.assertEqual(card.write_payload(image, 512, 3, 0, array.array("I", [0x64636261, 0x68676665])), 8)
+        self.assertEqual(image[40 * 512:40 * 512 + 9], b"abcdefgh\xa5")
+
+    def test_a_view_with_gaps_is_no_image(self):
+        wide = bytearray(2 * 100 * 512)
+        for view in (memoryview(wide)[::2], memoryview(wide)[::-1]):
+            for call in (lambda: card.lay(view, 512, DISK), lambda: card.check(view, 512), lambda: card.listing(view, 512)):
+                self.assertRaisesRegex(BufferError, "the image must be contiguous", call)
+        self.assertEqual(wide, bytes(len(wide)))
+
+    def test_a_view_with_gaps_is_no_payload(self):
+        image = filled()
+        before = bytes(image)
+        self.assertRaisesRegex(BufferError, "the bytes to write must be contiguous", card.write_payload, image, 512, 3, 0, memoryview(b"abcdef")[::2])
+        self.assertEqual(image, before)
+
+    def test_every_buffer_is_a_payload(self):
+        image = filled()
+        with mmap.mmap(-1, 5) as mapped:
+            mapped[:] = b"ridge"
+            for data in (b"ridge", bytearray(b"ridge"), memoryview(b"a ridge")[2:], array.array("B", b"ridge"), mapped):
+                image[40 * 512:42 * 512] = bytes(1024)
+                self.assertEqual(card.write_payload(image, 512, 3, 1019, data), 5)
+                self.assertEqual(image[40 * 512:42 * 512], bytes(1019) + b"ridge")
+
+    def test_what_is_no_buffer_is_no_payload(self):
+        image = filled()
+        before = bytes(image)
+        for data in (11, "ridge", [1, 2], None):
+            self.assertRaisesRegex(TypeError, "the bytes to write must be a buffer", card.write_payload, image, 512, 3, 0, data)
+        self.assertEqual(image, before)
+
+    def test_what_is_no_buffer_is_no_image(self):
+        for call in (lambda: card.check(68 * 512, 512), lambda: card.listing("card", 512), lambda: card.clear([0] * 34816, 512, 1)):
+            self.assertRaisesRegex(TypeError, "the image must be a buffer", call)
+
+    def test_empty_buffers(self):
+        image = filled()
+        for empty in (b"", bytearray(), memoryview(b""), array.array("I")):
+            self.assertEqual(card.write_payload(image, 512, 3, 1024, empty), 0)
+            with self.assertRaises(card.Refused) as caught:
+                card.check(empty, 512)
+            self.assertEqual(caught.exception.number, 8)
+
+    def test_an_image_is_let_go(self):
+        image = filled()
+        card.check(image, 512)
+        card.listing(image, 512)
+        self.assertRaises(card.Refused, card.clear, image, 512, 129)
+        self.assertRaises(BufferError, card.write_payload, image, 512, 3, 0, memoryview(b"abcdef")[::2])
+        image.append(0)
+        self.assertEqual(len(image), 100 * 512 + 1)
+
+
+class ReadOnly(unittest.TestCase):
+    def test_bytes_are_checked_and_listed(self):
+        image = bytes(filled())
+        for data in (image, memoryview(image), memoryview(bytearray(image)).toreadonly()):
+            card.check(data, 512)
+            self.assertEqual(card.listing(data, 512), [card.Entry(3, record(40, 41))])
+
+    def test_bytes_are_not_written(self):
+        image = bytes(filled())
+        before = bytes(bytearray(image))
+        for call in (lambda: card.lay(image, 512, DISK), lambda: card.put(image, 512, 1, record(34, 34)), lambda: card.clear(image, 512, 3),
+                     lambda: card.write_payload(image, 512, 3, 0, b"x")):
+            self.assertRaisesRegex(TypeError, "the image is read-only", call)
+        self.assertEqual(image, before)
+
+    def test_a_read_only_map_is_read_without_a_copy(self):
+        with large_image() as (file, _), mmap.mmap(file.fileno(), 0, access=mmap.ACCESS_READ) as image, little_memory(self):
+            card.check(image, 512)
+            self.assertEqual([entry.record.last for entry in card.listing(image, 512)], [33 + LARGE // 512])
+
+
+class Payload(unittest.TestCase):
+    def test_a_large_payload_is_not_copied(self):
+        data = b"\x5a" * LARGE
+        with large_image() as (_, image):
+            with little_memory(self):
+                self.assertEqual(card.write_payload(image, 512, 1, 0, data), LARGE)
+            self.assertEqual(image[34 * 512:34 * 512 + LARGE], data)
+
+    def test_a_part_of_the_image_is_no_payload(self):
+        image = filled()
+        before = bytes(image)
+        whole = memoryview(image)
+        for part in (whole, whole[:1], whole[-1:], whole[40 * 512:41 * 512], memoryview(whole[100:600])):
+            self.assertRaisesRegex(ValueError, "part of the image", card.write_payload, image, 512, 3, 0, part)
+        self.assertEqual(image, before)
+
+    def test_an_image_inside_the_payload_is_refused(self):
+        room = memoryview(bytearray(1 + 100 * 512 + 1))
+        card.lay(room[1:-1], 512, DISK)
+        card.put(room[1:-1], 512, 1, record(34, 60))
+        before = bytes(room)
+        for data in (room, room[:2], room[-2:]):
+            self.assertRaisesRegex(ValueError, "part of the image", card.write_payload, room[1:-1], 512, 1, 0, data)
+        self.assertEqual(bytes(room), before)
+
+    def test_neighbours_of_the_image_are_a_payload(self):
+        room = memoryview(bytearray(b"<") + bytes(100 * 512) + b">")
+        card.lay(room[1:-1], 512, DISK)
+        card.put(room[1:-1], 512, 1, record(34, 34))
+        self.assertEqual(card.write_payload(room[1:-1], 512, 1, 0, room[:1]), 1)
+        self.assertEqual(card.write_payload(room[1:-1], 512, 1, 1, room[-1:]), 1)
+        self.assertEqual(bytes(room[1 + 34 * 512:1 + 34 * 512 + 3]), b"<>\0")
+
+
+class Arguments(unittest.TestCase):
+    def test_a_name_with_a_zero_is_refused(self):
+        image = filled()
+        before = bytes(image)
+        for name in ("a\0b", "\0", "map\0"):
+            self.assertRaisesRegex(ValueError, "first zero", card.put, image, 512, 1, record(34, 34, name))
+        self.assertEqual(image, before)
+
+    def test_names_have_at_most_36_units(self):
+        image = laid()
+        for name in ("", "é" * 36, "🔥" * 18, "m\ud83d"):
+            card.put(image, 512, 1, record(34, 34, name))
+            self.assertEqual(card.listing(image, 512)[0].record.name, name)
+        before = bytes(image)
+        for name in ("é" * 37, "🔥" * 18 + "x"):
+            self.assertRaisesRegex(ValueError, "at most 36", card.put, image, 512, 1, record(34, 34, name))
+        self.assertEqual(image, before)
+
+    def test_numbers_fit_their_width(self):
+        image = filled()
+        before = bytes(image)
+        for call in (lambda: card.check(image, -1), lambda: card.check(image, 1 << 64), lambda: card.clear(image, 512, 1 << 32),
+                     lambda: card.write_payload(image, 512, 3, -1, b"x"), lambda: card.put(image, 512, 1, record(34, 1 << 64))):
+            self.assertRaisesRegex(ValueError, "does not fit", call)
+        self.assertRaises(TypeError, card.clear, image, 512, 3.0)
+        self.assertRaises(TypeError, card.check, image, "512")
+        self.assertEqual(image, before)
+
+
+class Refusals(unittest.TestCase):
+    def refused(self, number, slot, image, call):
+        before = bytes(image)
+        with self.assertRaises(card.Refused) as caught:
+            call(image)
+        self.assertEqual((caught.exception.number, caught.exception.slot), (number, slot))
+        self.assertEqual(bytes(image), before)
+
+    def test_a_refused_call_changes_nothing(self):
+        image = filled()
+        nil = uuid.UUID(int=0)
+        self.refused(1, 0, image, lambda image: card.lay(image, 1024, DISK))
+        self.refused(18, 0, image, lambda image: card.put(image, 512, 129, record(34, 34)))
+        self.refused(19, 0, image, lambda image: card.put(image, 512, 1, record(34, 34, type=nil)))
+        self.refused(20, 0, image, lambda image: card.put(image, 512, 1, record(35, 34)))
+        self.refused(21, 0, image, lambda image: card.put(image, 512, 1, record(33, 34)))
+        self.refused(22, 3, image, lambda image: card.put(image, 512, 1, record(41, 50)))
+        self.refused(18, 0, image, lambda image: card.clear(image, 512, 0))
+        self.refused(23, 0, image, lambda image: card.write_payload(image, 512, 1, 0, b"x"))
+        self.refused(24, 0, image, lambda image: card.write_payload(image, 512, 3, 1021, b"ridge"))
+        self.refused(24, 0, image, lambda image: card.write_payload(image, 512, 3, (1 << 64) - 1, b"ridge"))
+
+    def test_an_image_that_is_no_card_is_not_changed(self):
+        calls = (lambda image: card.check(image, 512), lambda image: card.listing(image, 512), lambda image: card.put(image, 512, 1, record(34, 34)),
+                 lambda image: card.clear(image, 512, 3), lambda image: card.write_payload(image, 512, 3, 0, b"x"))
+        for place, number in ((512, 4), (512 + 56, 5), (2 * 512, 6), (99 * 512, 4), (99 * 512 + 16, 5), (67 * 512 + 3, 6)):
+            image = filled()
+            image[place] ^= 1
+            for call in calls:
+                self.refused(number, 0, image, call)
+        for call in calls:
+            self.refused(8, 0, bytearray(3 * 512 - 1), call)
+            self.refused(10, 0, bytearray(67 * 512), call)
+
+    def test_a_refusal_is_pickled_and_copied(self):
+        for refusal in (card.Refused(22, 7), card.Refused(5)):
+            for again in [pickle.loads(pickle.dumps(refusal, protocol)) for protocol in range(pickle.HIGHEST_PROTOCOL + 1)] + [copy.copy(refusal)]:
+                self.assertEqual((type(again), again.number, again.slot, again.name, str(again)), (card.Refused, refusal.number, refusal.slot, refusal.name, str(refusal)))
+
+    def test_a_refusal_comes_from_another_process(self):
+        with concurrent.futures.ProcessPoolExecutor(1) as pool:
+            for call, number, slot in ((refuse_in_a_process, 10, 0), (collide_in_a_process, 22, 3)):
+                failure = pool.submit(call).exception(60)
+                self.assertIsInstance(failure, card.Refused)
+                self.assertEqual((failure.number, failure.slot), (number, slot))
+
+    def test_the_words_are_those_of_the_header(self):
+        header = (ROOT / "include" / "card.h").read_text()
+        stated = re.findall(r"^    CARD_(\w+) = (\d+),? +/\* (.*?)(?:; .*)? \*/$", header, re.M)
+        self.assertEqual([int(number) for _, number, _ in stated], [0, *card.NUMBERS])
+        for name, number, meaning in stated[1:]:
+            self.assertEqual((name.replace("_", ""), meaning), (card.NUMBERS[int(number)][0].upper(), card.NUMBERS[int(number)][1]))
+
+
+class Library(unittest.TestCase):
+    """Each test runs an interpreter of its own, so that the module looks for the library again."""
+
+    def setUp(self):
+        self.folder = pathlib.Path(tempfile.mkdtemp())
+        self.addCleanup(shutil.rmtree, self.folder)
+
+    def run_python(self, code, *flags, module=MODULE.parent, **more):
+        kept = {name: value for name, value in os.environ.items() if name not in ("CARD_LIBRARY", "LD_LIBRARY_PATH", "PYTHONPATH")}
+        return subprocess.run([sys.executable, *flags, "-c", code], env={**kept, "PYTHONPATH": str(module), **more}, capture_output=True, text=True, timeout=60)
+
+    def finds(self, module, place, **more):
+        """A copy of the module in a folder finds the library at a place where it is called libcard.so.0."""
+        (self.folder / module).mkdir(parents=True)
+        (self.folder / place).mkdir(parents=True, exist_ok=True)
+        shutil.copy(MODULE, self.folder / module)
+        shutil.copy(card._lib._name, self.folder / place / "libcard.so.0")
+        used = "import card; print([line.split()[-1] for line in open('/proc/self/maps') if 'libcard' in line][0])"
+        done = self.run_python(used, module=self.folder / module, **more)
+        self.assertEqual((done.stdout.strip(), done.stderr), (str((self.folder / place / "libcard.so.0").resolve()), ""))
+
+    def test_it_is_found_beside_the_module(self):
+        self.finds("a", "a")
+
+    def test_it_is_found_in_the_repository(self):
+        self.finds("hosts/python", "target/lib")
+
+    def test_it_is_found_by_the_loader(self):
+        self.finds("a", "b", LD_LIBRARY_PATH=str(self.folder / "b"))
+
+    def test_the_named_one_is_taken(self):
+        shutil.copy(card._lib._name, self.folder / "other.so")
+        done = self.run_python("import card; print(card._lib._name)", CARD_LIBRARY=str(self.folder / "other.so"))
+        self.assertEqual((done.stdout.strip(), done.stderr), (str(self.folder / "other.so"), ""))
+
+    def test_a_named_one_that_is_missing_is_an_error(self):
+        missing = str(self.folder / "libcard.so")
+        done = self.run_python("import card", CARD_LIBRARY=missing)
+        self.assertEqual(done.returncode, 1)
+        self.assertRegex(done.stderr.splitlines()[-1], "^FileNotFoundError: .*CARD_LIBRARY.*" + re.escape(missing))
+
+    def test_a_library_that_is_nowhere_is_an_error_that_says_where_it_was_looked_for(self):
+        (self.folder / "a").mkdir()
+        shutil.copy(MODULE, self.folder / "a")
+        done = self.run_python("import ctypes\ndef none(name): raise OSError('no ' + name)\nctypes.PyDLL = ctypes.CDLL = none\nimport card", module=self.folder / "a")
+        self.assertRegex(done.stderr.splitlines()[-1], "^OSError: .*CARD_LIBRARY can name it: no libcard.so.0; no libcard.so$")
+
+    def test_layouts_are_compared_also_without_assertions(self):
+        forged = "import ctypes\nreal = ctypes.sizeof\nctypes.sizeof = lambda t: 137 if getattr(t, '__name__', '') == '_Row' else real(t)\nimport card"
+        for flags in ([], ["-O"]):
+            done = self.run_python(forged, *flags)
+            self.assertEqual(done.returncode, 1, flags)
+            self.assertRegex(done.stderr.splitlines()[-1], "^ImportError: _Row has 137 bytes here, and not 136")
+
+    def test_the_lock_of_the_interpreter_is_kept(self):
+        self.assertIsInstance(card._lib, ctypes.PyDLL)
+
+
+if __name__ == "__main__":
+    done = unittest.main(exit=False, verbosity=0).result
+    if not done.wasSuccessful():
+        sys.exit(1)
+    print(f"python: {done.testsRun} tests ok")
