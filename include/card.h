@@ -10,7 +10,8 @@
    - While a call runs, nobody else writes a slice that is lent to it: no other thread, no other process and no device. A call that only reads
      a slice lets others read it too.
    - A bool is 0 or 1.
-   - There are CARD_STACK bytes of stack below the caller's frame. A thread that makes calls is given 32 KiB or more.
+   - There are CARD_STACK bytes of stack below the caller's frame. A thread of 24 KiB can make every call; one of 20 KiB cannot, since glibc keeps
+     some 4 KiB of a thread's stack for itself.
    An answer's bytes between its fields, and after the last one, hold nothing: compare answers field by field, never by memcmp.
    Nothing of this header is checked against the library's source: tests/c/boundary.c tries each call. The library keeps no state between calls.
 
@@ -35,8 +36,9 @@ extern "C" {
 #define CARD_SIZE(type, size) CARD_ASSERT(sizeof(type) == (size), "the size of " #type)
 #define CARD_AT(type, field, place) CARD_ASSERT(offsetof(type, field) == (place), "the place of " #field " in " #type)
 
-/* The bytes of stack that a call needs at most; 16,384 of them are the check sum's table. tests/c/stack.c measures each call. */
-#define CARD_STACK 24576
+/* The bytes of stack that a call needs at most. Of these the check sum's table is 16,384, in every call that sums an array; all else was at most 1,312 when it
+   was last measured. tests/c/stack.c measures each call, and makes each on a thread of 24 KiB. */
+#define CARD_STACK 20480
 
 /* The numbers that a call comes back with. A call's tests run in the order in which its numbers are listed beside it; 1 is always first. */
 enum card_number {

@@ -32,6 +32,7 @@ NOT_RUN = {
     "make differential-slips": "it takes minutes",
     "make install": "make install-test runs it, into an empty folder",
     "make uninstall": "the same",
+    "target/stack each": "make boundary runs the program without the word, and what it prints is read off by hand",
     "make rust-outside": "make rust runs it",
     "cargo run --release --bin tape": "make differential runs the same program, which then compares and does not write",
     "rt ci": "it is a part of the gate, and begins by removing what was proved",

@@ -1,6 +1,7 @@
 /* How much stack a call needs: each call runs on a thread whose stack was painted before, and what is overwritten afterwards is counted. No call
-   may need more than the header's CARD_STACK, and each call must end on a thread of 32 KiB with a page below it that cannot be touched.
-   It ends with "stack: ..", or with exit status 1 after a line for each call that needs more. Build: see tests/c/README.md. */
+   may need more than the header's CARD_STACK, and each call must end on a thread of 24 KiB with a page below it that cannot be touched.
+   It ends with "stack: ..", or with exit status 1 after a line for each call that needs more. With the argument "each" it prints what each
+   call needs. Build: see tests/c/README.md. */
 #define _GNU_SOURCE
 #include "card.h"
 #include <pthread.h>
@@ -13,7 +14,7 @@
 #define BLOCKS 200
 #define LEN (BLOCKS * BLOCK)
 #define ROOM 65536
-#define THREAD 32768
+#define THREAD 24576
 #define PAGE 4096
 #define PAINT 0xA5
 
@@ -46,6 +47,8 @@ static void write_primary(void) { number = gpt_write_primary(img, LEN, header, B
 static void slot_sum(void) { number = gpt_slot_sum(1, was, 128, is, 128, 1048448).number; }
 static void build(void) { number = gpt_build_from_header(header, BLOCK).number; }
 static void read_partition(void) { number = gpt_read_partition(img, LEN, header, BLOCK, 128).number; }
+static void count_partitions(void) { number = gpt_count_partitions(img, LEN, header, BLOCK).number; }
+static void next_partition(void) { number = gpt_next_partition(img, LEN, header, BLOCK, 64).number; }
 static void read_partitions(void) { number = gpt_file_read_partitions(img, LEN, header, BLOCK, (uint8_t *)rows, sizeof rows).number; }
 static void zero_entries(void) { number = gpt_write_zero_entries(img, LEN, 0, 4, 100, BLOCK, 4096).number; }
 static void mbr_set(void) { number = gpt_mbr_set_record(gpt_mbr_new(9), 3, gpt_mbr_protective_record(9)).number; }
@@ -58,8 +61,8 @@ typedef struct kind {
 #define KIND(call) {#call, call}
 static const kind kinds[] = {
     KIND(lay), KIND(check), KIND(put), KIND(clear), KIND(payload), KIND(count_used), KIND(next_used), KIND(read_slot), KIND(nth_used),
-    KIND(list), KIND(crc32), KIND(read_backup), KIND(write_primary), KIND(slot_sum), KIND(build), KIND(read_partition), KIND(read_partitions),
-    KIND(zero_entries), KIND(mbr_set), KIND(mbr_overwrite),
+    KIND(list), KIND(crc32), KIND(read_backup), KIND(write_primary), KIND(slot_sum), KIND(build), KIND(read_partition), KIND(count_partitions),
+    KIND(next_partition), KIND(read_partitions), KIND(zero_entries), KIND(mbr_set), KIND(mbr_overwrite),
 };
 enum { KINDS = sizeof kinds / sizeof kinds[0] };
 
@@ -99,7 +102,8 @@ static size_t painted(const kind *call) {
     return ROOM - left;
 }
 
-int main(void) {
+int main(int count, char **words) {
+    const bool each = count > 1 && strcmp(words[1], "each") == 0;
     static const kind none = KIND(nothing);
     uint8_t *room = mmap(NULL, PAGE + THREAD, PROT_READ | PROT_WRITE, MAP_PRIVATE | MAP_ANONYMOUS, -1, 0);
     must(room != MAP_FAILED && mprotect(room, PAGE, PROT_NONE) == 0, "no memory for a stack");
@@ -108,6 +112,7 @@ int main(void) {
     for (int k = 0; k < KINDS; k++) {
         fill();
         size_t need = painted(&kinds[k]) - own;
+        if (each) printf("%s %zu\n", kinds[k].name, need);
         if (number != 0) printf("stack: %s was refused by %u\n", kinds[k].name, (unsigned)number);
         wrong += number != 0;
         if (need > most) most = need;

@@ -220,24 +220,12 @@ pub fn device_place(start: Lba, index: u64, b: u64, entry_size: u32, count: u64)
     }
 }
 
-// The 128 bytes at place at.
-fn entry_bytes(s: &[u8], at: usize) -> [u8; 128]
-    requires { ⌜ at + 128 ≤ length (now s) ⌝ }
-    ensures { λ r. ⌜ r ≡ part (now (s .entry)) at 128 ⌝ }
-{
-    let mut bytes = [0u8; 128];
-    units::inner::copy_out(&mut bytes, s, at);
-    bytes
-}
-
-// Whether the entry at place at is present: not 128 zero bytes.
+// Whether the entry at place at is present: not 128 zero bytes. They are read where they stand.
 pub fn is_present(s: &[u8], at: usize) -> bool
     requires { ⌜ at + 128 ≤ length (now s) ⌝ }
     ensures { λ r. ⌜ r ≡ not (allZero (part (now (s .entry)) at 128)) ⌝ }
 {
-    let bytes = entry_bytes(s, at);
-    let empty = [0u8; 128];
-    !units::inner::same_at(&bytes, 0, &empty)
+    !units::inner::all_zero(s, at, 128)
 }
 
 // How many of the count entries from place at on are present.

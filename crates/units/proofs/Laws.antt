@@ -373,14 +373,6 @@ unfolding same
 same-refl [] = refl
 same-refl (x ∷ xs) = rw (eq-eqb x x refl) (same-refl xs)
 
--- to be the same as zeros is to be all zero
-pub same-zeros : (n : ℕ) (xs : List ℕ) → length xs ≡ n → same xs (replicate n 0) ≡ allZero xs
-unfolding same allZero
-same-zeros zero [] e = refl
-same-zeros (suc n) [] e = absurd (omega arith)
-same-zeros zero (x ∷ xs) e = absurd (omega arith)
-same-zeros (suc n) (x ∷ xs) e = rw (same-zeros n xs (omega arith))
-
 pub zero-append : (xs ys : List ℕ) → allZero (xs ++ ys) ≡ (allZero xs && allZero ys)
 unfolding allZero
 zero-append [] ys = refl
