@@ -113,7 +113,7 @@ example:
 	python3 tests/example/make_card.py sums | cmp - target/digests
 	@echo "two cards and $$(wc -l <target/digests) sums of cards are the independent maker's"
 
-# Runs the lister, sums and sample: seventeen cards, and input, output and arguments that fail.
+# Runs the lister, sums and sample: seventeen cards, input, output and arguments that fail, and long input.
 lister-test:
 	@scripts/prove lister sample sums
 	python3 tests/example/lister.py
@@ -166,6 +166,7 @@ race: lib
 
 # Compares every call of the library, its answers and every lent byte, with a model that was written from the documents alone (tests/model). Variables: SEED, SECONDS.
 model: lib
+	python3 tests/model/run.py --alone --seed 1 --cases 40000
 	python3 tests/model/run.py $(if $(SEED),--seed $(SEED)) --seconds $(or $(SECONDS),30)
 
 # Removes all that was built and proved.

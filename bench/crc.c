@@ -45,6 +45,22 @@ __attribute__((noinline)) static uint32_t zlib_header(const uint8_t *p, size_t n
     return (uint32_t)crc32(crc32(crc32(0, p, 16), zeros, 4), p + 20, HEADER - 20);
 }
 
+// A sum that goes on from block to block, each block by one call.
+static uint32_t plain_next(uint32_t running, const uint8_t *p, size_t n) { return ~plain_feed(~running, p, n); }
+static uint32_t zlib_next(uint32_t running, const uint8_t *p, size_t n) { return (uint32_t)crc32(running, p, (uInt)n); }
+#define BY_BLOCKS(name, next, block)                                                                           \
+    __attribute__((noinline)) static uint32_t name(const uint8_t *p, size_t n) {                               \
+        uint32_t r = 0;                                                                                        \
+        for (size_t at = 0; at < n; at += block) r = next(r, p + at, n - at < block ? n - at : block);         \
+        return r;                                                                                              \
+    }
+BY_BLOCKS(ours_512, gpt_crc32_next, 512)
+BY_BLOCKS(plain_512, plain_next, 512)
+BY_BLOCKS(zlib_512, zlib_next, 512)
+BY_BLOCKS(ours_4096, gpt_crc32_next, 4096)
+BY_BLOCKS(plain_4096, plain_next, 4096)
+BY_BLOCKS(zlib_4096, zlib_next, 4096)
+
 typedef uint32_t (*sum_fn)(const uint8_t *p, size_t n);
 
 static volatile uint32_t sink;
@@ -108,6 +124,8 @@ static int compare(const uint8_t *p) {
             bad |= differs("crc32 and plain table", n, gpt_crc32(p + o, n), plain(p + o, n));
             bad |= differs("crc32 and zlib", n, gpt_crc32(p + o, n), zlib_sum(p + o, n));
         }
+        bad |= differs("crc32_next, cut in two", n, gpt_crc32_next(gpt_crc32(p, n / 3), p + n / 3, n - n / 3), zlib_sum(p, n));
+        bad |= differs("crc32_next by blocks", n, ours_512(p, n), plain_512(p, n));
         bad |= differs("header_sum", n, rt_header_sum(p + n, n), n < HEADER ? 0 : plain_header(p + n, n));
     }
     uint32_t all = 0;
@@ -130,6 +148,8 @@ int main(void) {
     printf("all answers equal, lengths 0 to 2000\n");
     printf("%-10s %8s  %-25s %-25s %-25s  speed\n", "sum", "bytes", "ours", "plain byte table", "zlib");
     const sum_fn slices[3] = {gpt_crc32, plain, zlib_sum};
+    const sum_fn blocks_512[3] = {ours_512, plain_512, zlib_512};
+    const sum_fn blocks_4096[3] = {ours_4096, plain_4096, zlib_4096};
     const sum_fn headers[3] = {rt_header_sum, plain_header, zlib_header};
     const size_t sizes[] = {4, 92, 512, 4096, 16384, ROOM};
     double t[3];
@@ -137,6 +157,10 @@ int main(void) {
         medians(slices, p, sizes[i], t);
         line("crc32", sizes[i], t);
     }
+    medians(blocks_512, p, 16384, t);
+    line("by 512", 16384, t);
+    medians(blocks_4096, p, 16384, t);
+    line("by 4096", 16384, t);
     medians(headers, p, HEADER, t);
     line("header", HEADER, t);
     t[0] = lent_median(p, 4096);

@@ -329,8 +329,12 @@ gpt_count card_list(const uint8_t *img, size_t img_len, uint64_t b, uint8_t *out
 
 /* ---- the ported calls: the check sum and headers */
 
-/* CRC-32/ISO-HDLC; of no bytes it is 0. */
+/* CRC-32/ISO-HDLC; of no bytes it is 0. It is gpt_crc32_next from 0. */
 uint32_t gpt_crc32(const uint8_t *bytes, size_t bytes_len);
+
+/* The sum that goes on over bytes: running is the sum of the bytes before them, or 0, a fresh start, where there are none. Pieces that are summed one after
+   the other, each from the answer before it, give the sum of all their bytes, wherever they are cut. A piece of no bytes leaves running as it is. */
+uint32_t gpt_crc32_next(uint32_t running, const uint8_t *bytes, size_t bytes_len);
 
 typedef struct gpt_header_read {
     uint32_t number;

@@ -1,4 +1,4 @@
-"""The card calls for Python, over libcard.so: lay, check, put, clear, write_payload, listing.
+"""The card calls for Python, over libcard.so: lay, check, put, clear, write_payload, listing; and crc32_next, the check sum of bytes that come in pieces.
 
 An image is any writable buffer of contiguous bytes, such as a bytearray or an mmap; check and listing take read-only ones too, such as bytes. No call
 copies the image. A call that is refused raises Refused, with the number of the refusal (NUMBERS), and changes nothing.
@@ -22,6 +22,8 @@ card.Refused: refused 22, Overlap: a block that another slot has (slot 1)
 >>> clear(image, 512, 1)
 >>> listing(image, 512), bytes(image[34 * 512:34 * 512 + 11])
 ([], b'north ridge')
+>>> hex(crc32_next(crc32_next(FRESH, b"1234"), b"56789"))
+'0xcbf43926'
 
 The library is the file that CARD_LIBRARY names. Where that is not set, libcard.so.0 or libcard.so is looked for beside this file, in ../../target/lib and
 where the system's loader looks.
@@ -35,6 +37,7 @@ import uuid
 from dataclasses import dataclass, field
 
 BASIC_DATA = uuid.UUID("ebd0a0a2-b9e5-4433-87c0-68b6b72699c7")
+FRESH = 0  # the sum of nothing, from which crc32_next starts a new sum
 
 NUMBERS = {
     1: ("BadBlockSize", "the block size is neither 512 nor 4,096"),
@@ -193,6 +196,7 @@ _put = _declare("card_put", _Answer, *_slice, ctypes.c_uint64, ctypes.c_uint32, 
 _clear = _declare("card_clear", _Answer, *_slice, ctypes.c_uint64, ctypes.c_uint32)
 _payload = _declare("card_write_payload", _Stored, *_slice, ctypes.c_uint64, ctypes.c_uint32, ctypes.c_size_t, *_slice)
 _list = _declare("card_list", _Count, *_slice, ctypes.c_uint64, *_slice)
+_sum_next = _declare("gpt_crc32_next", ctypes.c_uint32, ctypes.c_uint32, *_slice)
 
 
 _hold = ctypes.PYFUNCTYPE(ctypes.c_int, ctypes.py_object, ctypes.POINTER(_Buffer), ctypes.c_int)(("PyObject_GetBuffer", ctypes.pythonapi))
@@ -305,6 +309,13 @@ def listing(image, block_size):
     with _lent(image) as lent:
         n = _take(_list(*lent, _blocks(block_size), ctypes.byref(rows), ctypes.sizeof(rows))).count
     return [Entry(row.slot, _read(row.record)) for row in rows[:n]]
+
+
+def crc32_next(running, data):
+    """The check sum CRC-32/ISO-HDLC that goes on over bytes, any buffer: `running` is the sum of the bytes before them, FRESH where there are none."""
+    running = _number(running, 32, "the running sum")
+    with _lent(data, "the bytes to sum") as lent:
+        return _sum_next(running, *lent)
 
 
 if __name__ == "__main__":

@@ -174,9 +174,31 @@ static void payloads(void) {
     SAME(card_count_used(img, LEN, BLOCK).count, 1);
 }
 
+/* The sum of bytes in pieces of so many bytes, the last as long as is left. */
+static uint32_t in_pieces(const uint8_t *bytes, size_t len, size_t piece) {
+    uint32_t running = 0;
+    size_t at = 0;
+    for (; len - at > piece; at += piece) running = gpt_crc32_next(running, bytes + at, piece);
+    return gpt_crc32_next(running, bytes + at, len - at);
+}
+
+static void going_on(void) {
+    const uint8_t *text = (const uint8_t *)"123456789";
+    for (size_t cut = 0; cut <= 9; cut++) SAME(gpt_crc32_next(gpt_crc32_next(0, text, cut), text + cut, 9 - cut), 0xCBF43926);
+    SAME(gpt_crc32_next(0xFFFFFFFF, text, 0), 0xFFFFFFFF);
+    SAME(gpt_crc32_next(0x89ABCDEF, text, 0), 0x89ABCDEF);
+    SAME(gpt_crc32_next(1, text, 9), 0xDC8F2D65); /* zlib's, as the next */
+    SAME(gpt_crc32_next(0xFFFFFFFF, text, 9), 0xD202D277);
+    const uint32_t whole = gpt_crc32(img + 2 * BLOCK, 16384);
+    for (size_t piece = 1; piece <= 4096; piece *= 2) SAME(in_pieces(img + 2 * BLOCK, 16384, piece), whole);
+    SAME(in_pieces(img + 2 * BLOCK, 16384, 127), whole);
+    SAME(in_pieces(img + 2 * BLOCK, 16384, 4097), whole);
+}
+
 static void headers(void) {
     SAME(gpt_crc32((const uint8_t *)"123456789", 9), 0xCBF43926);
     SAME(gpt_crc32((const uint8_t *)"", 0), 0);
+    going_on();
     gpt_header_read h = gpt_read_primary_header(img, LEN, BLOCK);
     SAME(h.number, 0);
     SAME(h.header.revision.major, 1);

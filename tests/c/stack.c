@@ -42,6 +42,7 @@ static void read_slot(void) { number = card_read_slot(img, LEN, BLOCK, 64).numbe
 static void nth_used(void) { number = card_nth_used(img, LEN, BLOCK, 100).number; }
 static void list(void) { number = card_list(img, LEN, BLOCK, (uint8_t *)rows, sizeof rows).number; }
 static void crc32(void) { number = gpt_crc32(img, LEN) == 0; }
+static void crc32_next(void) { number = gpt_crc32_next(1, img, LEN) == 0; }
 static void read_backup(void) { number = gpt_read_backup_header(img, LEN, BLOCK).number; }
 static void write_primary(void) { number = gpt_write_primary(img, LEN, header, BLOCK).number; }
 static void slot_sum(void) { number = gpt_slot_sum(1, was, 128, is, 128, 1048448).number; }
@@ -61,8 +62,8 @@ typedef struct kind {
 #define KIND(call) {#call, call}
 static const kind kinds[] = {
     KIND(lay), KIND(check), KIND(put), KIND(clear), KIND(payload), KIND(count_used), KIND(next_used), KIND(read_slot), KIND(nth_used),
-    KIND(list), KIND(crc32), KIND(read_backup), KIND(write_primary), KIND(slot_sum), KIND(build), KIND(read_partition), KIND(count_partitions),
-    KIND(next_partition), KIND(read_partitions), KIND(zero_entries), KIND(mbr_set), KIND(mbr_overwrite),
+    KIND(list), KIND(crc32), KIND(crc32_next), KIND(read_backup), KIND(write_primary), KIND(slot_sum), KIND(build), KIND(read_partition),
+    KIND(count_partitions), KIND(next_partition), KIND(read_partitions), KIND(zero_entries), KIND(mbr_set), KIND(mbr_overwrite),
 };
 enum { KINDS = sizeof kinds / sizeof kinds[0] };
 

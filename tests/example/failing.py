@@ -146,13 +146,44 @@ def small_pieces(program, image):
     return run(program, stdin=subprocess.PIPE, during=during)
 
 
-# Output that fails. Each takes the file or the bytes that the program is to read.
+def uneven_pieces(program, data):
+    """Pieces of uneven length, at most as long as a pipe holds. The next one is written once the one before has been read, so that no read gives two."""
+    reads, writes = os.pipe()
+
+    def during(p):
+        at, length = 0, 1
+        while at < len(data):
+            os.write(writes, data[at:at + length])
+            until(lambda: unread(reads) == 0)
+            at, length = at + length, length * 3 % 65521
+        os.close(writes)
+
+    try:
+        return run(program, stdin=reads, during=during)
+    finally:
+        os.close(reads)
+
 
 def given(image):
     f = tempfile.TemporaryFile()
     f.write(image)
     f.seek(0)
     return f
+
+
+def from_file(program, data):
+    with given(data) as f:
+        return run(program, stdin=f)
+
+
+def zeros(program, length):
+    """A file of zeros that takes no room on the disk."""
+    with tempfile.TemporaryFile() as f:
+        f.truncate(length)
+        return run(program, stdin=f)
+
+
+# Output that fails. Each takes the file or the bytes that the program is to read.
 
 
 def full(program, image):

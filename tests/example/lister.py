@@ -1,9 +1,11 @@
 #!/usr/bin/env python3
 """Runs target/bin/lister on cards of the independent maker and on what it must refuse, and compares all that it prints with document 01's words.
-Then runs it, sums and sample with input and output that fail: that is said on standard error, and is never a verdict."""
+Then runs it, sums and sample with input and output that fail: that is said on standard error, and is never a verdict.
+And sums on input of any length, cut in any way."""
 import os
 import subprocess
 import sys
+import zlib
 
 import failing
 import make_card
@@ -47,7 +49,7 @@ CASES = [
 LISTED = HEAD + "1 34 34 1\nused 1\n"
 USAGE = {
     "lister": "usage: lister < IMAGE (blocks of 512 bytes, 65,536 bytes at most; the exit status is always 0, so read what is printed)\n",
-    "sums": "usage: sums < BYTES (65,536 at most; the exit status is always 0, so read what is printed)\n",
+    "sums": "usage: sums < BYTES (any number of them; the exit status is always 0, so read what is printed)\n",
     "sample": "usage: sample > IMAGE (65,536 bytes; the exit status is always 0, so read what is printed on standard error)\n",
 }
 
@@ -92,6 +94,20 @@ def slow(program, image, output):
     ]
 
 
+def long_inputs(vectors):
+    """Input of `sums` that is longer than what it reads at once, whole and cut unevenly: the sum is zlib's. The last is longer than 32 bits can count."""
+    def line(total, n):
+        return vectors + "%08x %d bytes of standard input\n" % (total, n), "", 0
+
+    rows = []
+    for n in (65535, 65536, 65537, 1000003):
+        data = bytes(k * k >> 7 & 255 for k in range(n))
+        want = line(zlib.crc32(data), n)
+        rows.append((f"{n} bytes of a file", want, lambda data=data: failing.from_file("sums", data)))
+        rows.append((f"{n} bytes, cut unevenly", want, lambda data=data: failing.uneven_pieces("sums", data)))
+    return rows + [("4 GiB of zeros and one more", line(0x41D912FF, 2 ** 32 + 1), lambda: failing.zeros("sums", 2 ** 32 + 1))]
+
+
 def outputs(program, image, output):
     """Output that fails: at the first byte, and after some."""
     said = f"{program}: cannot write the output\n"
@@ -114,7 +130,7 @@ def failures():
     sums = vectors + "cbf43926 9 bytes of standard input\n"
     runs = {
         "lister": inputs("lister", "") + slow("lister", ONE, LISTED) + outputs("lister", ONE, LISTED) + arguments("lister"),
-        "sums": inputs("sums", vectors) + slow("sums", text, sums) + outputs("sums", text, sums) + arguments("sums"),
+        "sums": inputs("sums", vectors) + slow("sums", text, sums) + long_inputs(vectors) + outputs("sums", text, sums) + arguments("sums"),
         "sample": outputs("sample", b"", stored("sample")) + arguments("sample") + [
             ("closed input, which it does not read", (stored("sample"), "", 0), lambda: failing.closed_input("sample")),
             ("EINTR", (stored("sample"), "", 0), lambda: failing.interrupted_write("sample", b"")),
@@ -140,7 +156,7 @@ def main():
         if got != want:
             wrong += 1
             print(f"{program}: {what}: wrote {shown(got[0])}, said {shown(got[1])}, status {got[2]}; not {shown(want[0])}, {shown(want[1])}, {want[2]}")
-    print(f"lister: {len(CASES)} inputs, and {len(runs)} runs of lister, sums and sample with input, output or arguments that fail; {wrong} wrong")
+    print(f"lister: {len(CASES)} inputs, and {len(runs)} runs of lister, sums and sample with input, output or arguments that fail, and of sums on long input; {wrong} wrong")
     return 1 if wrong else 0
 
 

@@ -6,7 +6,7 @@ import headers
 import images
 import model
 from draws import BAD_BLOCK_SIZES, ENTRY_SIZES, SLOTS
-from sums import crc32
+from sums import FRESH, crc32
 
 
 def slot(draw, image, b):
@@ -209,6 +209,27 @@ def slot_sum(draw, b):
     return draw.pick((crc32(was + bytes(min(after, 2**20))), draw.number(32))), was, now, after
 
 
+def summed_data(draw):
+    """Bytes to sum: none, a few, near the widths that a quick sum takes at once, a header, an entry, or any number."""
+    return draw.data(draw.pick((0, 1, 3, 7, 8, 9, 15, 16, 17, 92, 128, draw.below(3000))))
+
+
+def running_sum(draw, b):
+    """A running value and bytes: a fresh start, an edge, the sum of other bytes, or any value."""
+    before = crc32(draw.data(draw.below(40)))
+    return draw.pick((FRESH, 1, 2**31, 2**32 - 1, before, draw.number(32))), summed_data(draw)
+
+
+def pieces(draw, data):
+    """A slice cut anywhere, at times where it was cut before, so that pieces are empty too; or cut into blocks."""
+    if draw.chance(25):
+        size = draw.pick((1, 16, 128, 512)) if len(data) < 600 else draw.pick((128, 512, 4096))
+        return [data[place : place + size] for place in range(0, len(data), size)]
+    cuts = sorted(draw.below(len(data) + 1) for _ in range(draw.pick((1, 1, 2, 3, 7))))
+    cuts += cuts[-1:] if draw.chance(30) else []
+    return [data[start:end] for start, end in zip([0, *cuts], [*cuts, len(data)])]
+
+
 def mbr_buffer(draw, b):
     """A buffer for parsing an MBR: of one block, near it, with and without 55 AA."""
     length = draw.pick((b, b, b, b - 1, b + 1, 512, 4096, 0, 511))
@@ -234,8 +255,9 @@ def image_length(draw, b):
 
 
 def range_record(draw, b):
-    """A record whose block count or byte count is near 64 bits at times."""
-    return draw.record([0, 34, 2**64 // b, 2**64 - 1])
+    """A record whose block count or byte count is near 64 bits at times; that of all blocks passes 64 bits."""
+    record = draw.record([0, 34, 2**64 // b, 2**64 - 1])
+    return record._replace(first_lba=draw.pick((0, 0, 1)), last_lba=2**64 - 1) if draw.chance(6) else record
 
 
 def any_block_size(draw, b):
@@ -244,7 +266,8 @@ def any_block_size(draw, b):
 
 
 LOOSE = {
-    "gpt_crc32": lambda draw, b: (draw.data(draw.pick((0, 1, 3, 15, 16, 17, 92, 128, draw.below(3000)))),),
+    "gpt_crc32": lambda draw, b: (summed_data(draw),),
+    "gpt_crc32_next": running_sum,
     "gpt_slot_sum": slot_sum,
     "gpt_find_backup_lba": image_length,
     "gpt_settings_new": lambda draw, b: (draw.guid(),),

@@ -15,6 +15,7 @@ NUMBERS = {
     "card_nth_used": CHECK,
     "card_list": CHECK | {15},
     "gpt_crc32": {0},
+    "gpt_crc32_next": {0},
     "gpt_read_primary_header": {0, 1, 2, 4, 5},
     "gpt_read_backup_header": {0, 1, 8, 4, 5},
     "gpt_find_backup_lba": {0, 1, 8},

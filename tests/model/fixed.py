@@ -1,10 +1,11 @@
-"""Cases with known answers: document 01's cases at the edges, its lister example and published check sums, on the model and the library alike."""
+"""Cases with known answers, on the model and the library alike: document 01's cases at the edges, its lister example,
+published check sums and what document 02 changes."""
 
 import builder
 import entries
 import headers
 import mbr
-from sums import crc32, crc32_by_bits
+from sums import FRESH, crc32, crc32_by_bits, crc32_next
 from units import NIL, guid_from
 
 GUID = guid_from(bytes(range(16)))
@@ -54,6 +55,32 @@ def small_cases(calls):
         yield "check sum", calls["gpt_crc32"](data)[1], (value,)
 
 
+def summed(calls, pieces, running=FRESH):
+    """The last running value of some pieces, each summed from the value before."""
+    for piece in pieces:
+        running = calls["gpt_crc32_next"](running, piece)[1][0]
+    return running
+
+
+def running_cases(calls):
+    """Document 02, 4/13: a fresh start is 0, no bytes change nothing, and a table cut anywhere sums as one run."""
+    for data, value in VECTORS:
+        yield "fresh start", calls["gpt_crc32_next"](FRESH, data), (0, (value,), (data,))
+        yield "byte by byte", summed(calls, [data[i : i + 1] for i in range(len(data))]), value
+        for cut in range(len(data) + 1):
+            yield f"cut at {cut}", summed(calls, [data[:cut], b"", data[cut:], b""]), value
+    for running in (0, 1, 2**31, 0xCBF43926, 2**32 - 1):
+        yield f"no bytes after {running}", calls["gpt_crc32_next"](running, b"")[:2], (0, (running,))
+    yield "a, then bc", calls["gpt_crc32_next"](0xE8B7BE43, b"bc")[1], (0x352441C2,)
+    for b in (512, 4096):
+        image = calls["card_lay"](bytes(70 * b), b, GUID)[2][0]
+        record = entries.ZERO._replace(part_type_guid=GUID, first_lba=34, last_lba=34)
+        image = calls["card_put"](image, b, 128, record)[2][0]
+        blocks = [image[place : place + b] for place in range(2 * b, 2 * b + 16384, b)]
+        header = calls["gpt_read_primary_header"](image, b)[1][0]
+        yield f"the array of a card by blocks of {b}", summed(calls, blocks), header.crc32_parts
+
+
 def card_cases(calls):
     """The lister's example: 68 zero blocks, laid, slot 1 put at 34 to 34; and one block fewer."""
     image = calls["card_lay"](bytes(68 * 512), 512, GUID)[2][0]
@@ -67,9 +94,12 @@ def card_cases(calls):
     yield "nil type", calls["card_put"](image, 512, 1, record._replace(part_type_guid=NIL))[0], 19
 
 
+GROUPS = (built_fields, small_cases, running_cases, card_cases)
+
+
 def wrong(calls):
     """The fixed cases whose answer is not the known one."""
-    for group in (built_fields, small_cases, card_cases):
+    for group in GROUPS:
         for name, got, due in group(calls):
             if got != due:
                 yield f"{name}: {got!r:.200}, and {due!r:.200} is due"
@@ -81,5 +111,8 @@ def wrong_sums():
         data = bytes(range(length))
         if crc32(data) != crc32_by_bits(data):
             yield f"the quick sum of {length} bytes is not the defined one"
+        for running in (FRESH, 1, 2**31, 2**32 - 1 - length, 0xCBF43926):
+            if crc32_next(running, data) != crc32_by_bits(data, running):
+                yield f"the quick sum of {length} bytes after {running} is not the defined one"
     if len(headers.header_bytes(headers.ZERO)) != 92:
         yield "a header is not 92 bytes"

@@ -134,6 +134,7 @@ DECLARED = {
     "card_nth_used": (USED_READ, LENT, c_uint64, c_uint32),
     "card_list": (COUNT, LENT, c_uint64, LENT),
     "gpt_crc32": (c_uint32, LENT),
+    "gpt_crc32_next": (c_uint32, c_uint32, LENT),
     "gpt_read_primary_header": (HEADER_READ, LENT, c_uint64),
     "gpt_read_backup_header": (HEADER_READ, LENT, c_uint64),
     "gpt_find_backup_lba": (BLOCK, c_size_t, c_uint64),
@@ -216,6 +217,11 @@ def plain(ctype, value):
     return value
 
 
+def has_number(result):
+    """Whether what a call comes back with is an answer, with the number first."""
+    return result is not None and issubclass(result, ctypes.Structure) and result._fields_[0][0] == "number"
+
+
 def answered(result, value):
     """The number and the other fields of what a call came back with."""
     if result is None:
@@ -223,7 +229,7 @@ def answered(result, value):
     if not issubclass(result, ctypes.Structure):
         return 0, (value,)
     values = tuple(plain(result, value))
-    return (values[0], values[1:]) if result._fields_[0][0] == "number" else (0, values)
+    return (values[0], values[1:]) if has_number(result) else (0, values)
 
 
 def bind(function, result, *kinds):

@@ -14,8 +14,10 @@ import fixed
 import images
 import library
 import model
+import shapes
 from draws import Draw
 from fixed import GUID
+from sums import FRESH
 
 BUILT = pathlib.Path(__file__).resolve().parents[2] / "target" / "lib" / "libcard.so"
 LENGTHS = [0, 1, 15, 439, 440, 443, 444, 511, 512, 513, 603, 604, 1024, 1535, 1536, 1600, 4095, 4096, 4097, 4187, 4188, 8192, 12287, 12288]
@@ -77,6 +79,15 @@ class Rounds:
             name = self.draw.pick(names)
             self.judge([], None, name, cases.LOOSE[name](self.draw, b))
 
+    def ask_cut(self):
+        """One slice, summed in pieces and as a whole: the last running value is the sum of the whole slice."""
+        data = cases.summed_data(self.draw)
+        running = FRESH
+        for piece in cases.pieces(self.draw, data):
+            running = self.judge([], None, "gpt_crc32_next", (running, piece))[1][0]
+        if self.judge([], None, "gpt_crc32", (data,))[1] != (running,):
+            raise RuntimeError(f"cut into pieces, these bytes do not sum as the whole: {data.hex()}")
+
     def start(self, b):
         """The first step of an image: its length and its filling."""
         draw = self.draw
@@ -128,6 +139,7 @@ class Rounds:
             self.judge(steps + hurt, hurt_image, "card_check", (b,))
             self.ask(steps + hurt, hurt_image, b, 6)
         self.ask_loose(b, 30)
+        self.ask_cut()
 
     def run(self):
         """Rounds until the end, a full table now and then."""
@@ -149,13 +161,16 @@ def options():
     parser.add_argument("--seconds", type=float, default=30, help="how long to run")
     parser.add_argument("--cases", type=int, default=0, help="how many calls to compare, in place of a time")
     parser.add_argument("--library", default=str(BUILT), help="the library to try")
+    parser.add_argument("--alone", action="store_true", help="try the model by itself, without a library")
     return parser.parse_args()
 
 
 def fixed_cases(calls):
-    """Tries the cases with known answers; gives whether all were right."""
-    lines = [f"model: {line}" for line in fixed.wrong(model.CALLS)]
-    lines += [f"library: {line}" for line in fixed.wrong(calls)]
+    """Tries the declarations and the cases with known answers; gives whether all were right."""
+    lines = [f"declared: {line}" for line in shapes.wrong()]
+    lines += [f"model: {line}" for line in fixed.wrong(model.CALLS)]
+    if calls is not model.CALLS:
+        lines += [f"library: {line}" for line in fixed.wrong(calls)]
     lines += list(fixed.wrong_sums())
     print("\n".join(lines) if lines else "the cases with known answers are right")
     return not lines
@@ -166,10 +181,10 @@ def main():
     given = options()
     seed = secrets.randbelow(1 << 32) if given.seed is None else given.seed
     print(f"seed {seed}", flush=True)
-    if not pathlib.Path(given.library).is_file():
+    if not given.alone and not pathlib.Path(given.library).is_file():
         print(f"there is no library at {given.library}: make lib builds it")
         return 1
-    calls = library.load(given.library)
+    calls = model.CALLS if given.alone else library.load(given.library)
     if not fixed_cases(calls):
         return 1
     rounds = Rounds(calls, seed, given.seconds, given.cases)
@@ -182,7 +197,8 @@ def main():
     print("\n".join(rounds.seen.table()))
     missing = list(rounds.seen.missing())
     print("\n".join(missing) if missing else "each number of each call was seen")
-    print(f"model: {rounds.compared} calls compared, 0 differences (seed {seed})")
+    against = "with itself" if given.alone else "compared, 0 differences"
+    print(f"model: {rounds.compared} calls {against} (seed {seed})")
     return 1 if missing else 0
 
 

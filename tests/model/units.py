@@ -48,6 +48,7 @@ def call(zero, lent=()):
             return 0, values, tuple(bytes(work[i]) for i in lent)
 
         answer.lent = lent
+        answer.zero = zero
         answer.step = ""
         return answer
 

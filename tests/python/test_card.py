@@ -18,6 +18,7 @@ import tempfile
 import tracemalloc
 import unittest
 import uuid
+import zlib
 
 ROOT = pathlib.Path(__file__).resolve().parent.parent.parent
 MODULE = ROOT / "hosts" / "python" / "card.py"
@@ -225,6 +226,37 @@ class Arguments(unittest.TestCase):
         self.assertRaises(TypeError, card.clear, image, 512, 3.0)
         self.assertRaises(TypeError, card.check, image, "512")
         self.assertEqual(image, before)
+
+
+class Sums(unittest.TestCase):
+    def test_a_cut_anywhere_sums_as_one_run(self):
+        text = b"123456789"
+        for cut in range(10):
+            self.assertEqual(card.crc32_next(card.crc32_next(card.FRESH, text[:cut]), text[cut:]), 0xCBF43926)
+
+    def test_an_array_is_summed_block_by_block(self):
+        array = bytes(filled()[1024:1024 + 16384])
+        for length in (1, 127, 128, 512, 4096, 4097, 16384):
+            running = card.FRESH
+            for at in range(0, 16384, length):
+                running = card.crc32_next(running, memoryview(array)[at:at + length])
+            self.assertEqual(running, zlib.crc32(array))
+
+    def test_it_goes_on_from_any_value_as_zlib_does(self):
+        for running in (0, 1, 0x89ABCDEF, (1 << 32) - 1):
+            self.assertEqual(card.crc32_next(running, b""), running)
+            self.assertEqual(card.crc32_next(running, b"123456789"), zlib.crc32(b"123456789", running))
+
+    def test_the_running_sum_fits_and_the_bytes_are_a_buffer(self):
+        for running in (-1, 1 << 32):
+            self.assertRaisesRegex(ValueError, "the running sum does not fit 32 bits", card.crc32_next, running, b"")
+        self.assertRaises(TypeError, card.crc32_next, 0.0, b"")
+        self.assertRaisesRegex(TypeError, "the bytes to sum must be a buffer", card.crc32_next, 0, "text")
+        self.assertRaisesRegex(BufferError, "the bytes to sum must be contiguous", card.crc32_next, 0, memoryview(b"abcd")[::2])
+
+    def test_large_bytes_are_not_copied(self):
+        with large_image() as (_, image), little_memory(self):
+            self.assertEqual(card.crc32_next(0, image), zlib.crc32(image))
 
 
 class Refusals(unittest.TestCase):

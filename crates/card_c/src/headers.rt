@@ -10,7 +10,7 @@ use units::Lba;
 ghost use mathlib.Core.Path.{_≡_};
 ghost use Rattle.units.specs.Answer.{Ends};
 ghost use Rattle.units.specs.Meanings.{blockMeans};
-ghost use Rattle.crc32.specs.Crc.{crc};
+ghost use Rattle.crc32.specs.Crc.{crcFrom, crc};
 ghost use Rattle.header.specs.Reading.{primaryRead, backupRead, backupBlock};
 ghost use Rattle.header.specs.Writing.{partsSum, primaryWritten, backupWritten};
 ghost use Rattle.header.specs.Meanings.{readMeans, writtenMeans, sumMeans};
@@ -123,6 +123,14 @@ pub extern "C" fn gpt_crc32(bytes: &[u8]) -> u32
     ensures { λ r. ⌜ r ≡ crc (now (bytes .entry)) ⌝ }
 {
     crc32::crc32(bytes)
+}
+
+// The check sum that goes on over bytes, from that of the bytes before them; 0 is a fresh start.
+#[no_mangle]
+pub extern "C" fn gpt_crc32_next(running: u32, bytes: &[u8]) -> u32
+    ensures { λ r. ⌜ r ≡ crcFrom running (now (bytes .entry)) ⌝ }
+{
+    crc32::crc32_next(running, bytes)
 }
 
 // The primary header: 1, 2, 4, 5.

@@ -1,4 +1,4 @@
-// What the programs share: reading all of standard input, writing to standard output, and saying on standard error what failed.
+// What the programs share: reading standard input, all of it or piece by piece, writing to standard output, and saying on standard error what failed.
 //
 // A read or a write that a signal interrupts is asked again. Any other failure is told to the caller, who says it and gives no verdict.
 use libc::STDERR_FILENO;
@@ -26,6 +26,17 @@ fn read_some(buf: &mut [u8]) -> isize {
         turns -= 1;
     }
     got
+}
+
+// Reads the next piece of standard input, as long as one read gives it. A piece of no bytes is the end.
+pub fn read_piece(buf: &mut [u8]) -> Input
+    ensures { λ r. ⌜ Within r (now (buf .exit)) ⌝ }
+{
+    let got = read_some(buf);
+    if got < 0 {
+        return Input::Failed;
+    }
+    Input::Bytes(io::count(got, buf))
 }
 
 // Reads standard input until it ends or the buffer is full.

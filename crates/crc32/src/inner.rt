@@ -4,9 +4,10 @@ ghost use mathlib.Core.Path.{_≡_};
 ghost use Prim.Native.Nat.{ℕ, _+_, _*_, _<_, _≤_};
 ghost use lib.Bits.{bitXor};
 ghost use lib.ListN.{length, take, drop};
-ghost use Rattle.crc32.specs.Crc.{steps, feed, crc};
+ghost use Rattle.crc32.specs.Crc.{steps, feed, crcFrom};
 ghost use Rattle.crc32.specs.Rows.{Rows};
 ghost use Rattle.crc32.specs.HeaderSum.{headerSum};
+use crate::FRESH;
 use crate::rows::ROWS;
 use crate::small;
 use crate::words::wide;
@@ -105,21 +106,22 @@ fn run(t: &[u32; 4096], r: u32, s: &[u8]) -> u32
     words(t, x, s, i)
 }
 
-// The check sum of s.
-pub fn sum<'a>(t: &'a [u32; 4096], s: &'a [u8]) -> u32
+// The check sum that goes on over s from a running value: the sum of the bytes before s, or FRESH where there are none.
+pub fn sum<'a>(t: &'a [u32; 4096], running: u32, s: &'a [u8]) -> u32
     requires { ⌜ Rows 16 (now t) ⌝ }
-    ensures { λ r. ⌜ r ≡ crc (now (s .entry)) ⌝ }
+    ensures { λ r. ⌜ r ≡ crcFrom running (now (s .entry)) ⌝ }
 {
-    run(t, 0xffffffff, s) ^ 0xffffffff
+    run(t, running ^ 0xffffffff, s) ^ 0xffffffff
 }
 
 // The check sum of the header of 92 bytes that starts at a place of s. Its own field, the bytes 16 to 19, goes in as four bytes of zero.
+// It goes on by the register itself over the three pieces, and inverts it only before the first and after the last.
 pub fn header_sum_at<'a>(t: &'a [u32; 4096], s: &'a [u8], at: usize) -> u32
     requires { ⌜ Rows 16 (now t) ⌝ }
     requires { ⌜ at + 92 ≤ length (now s) ⌝ }
     ensures { λ r. ⌜ r ≡ headerSum (now (s .entry)) at ⌝ }
 {
-    let front = block(t, 0xffffffff, s, at);
+    let front = block(t, FRESH ^ 0xffffffff, s, at);
     let field = four(t, 0, front);
     run(t, field, &s[at + 20..at + 92]) ^ 0xffffffff
 }

@@ -19,7 +19,7 @@ ghost use Rattle.units.specs.Places.{goodSize, inside, placeOf, placeAfter, blo
 ghost use Rattle.units.specs.Numbers.{widthOf, numberRead};
 ghost use Rattle.units.specs.Guids.{guidRead, isNil, nilGuid};
 ghost use Rattle.units.specs.Meanings.{placedMeans, blockMeans, arrayPlaceMeans, slotMeans, numberMeans, guidMeans};
-ghost use Rattle.crc32.specs.Crc.{crc};
+ghost use Rattle.crc32.specs.Crc.{crcFrom, crc};
 ghost use Rattle.crc32.specs.HeaderSum.{headerSum};
 ghost use Rattle.header.specs.Meanings.{sumMeans};
 ghost use Rattle.slot_sum.specs.SlotSum.{slotSum};
@@ -100,6 +100,12 @@ pub fn crc32(s: &[u8]) -> u32
     ensures { λ r. ⌜ r ≡ crc (now (s .entry)) ⌝ }
 {
     crc32::crc32(s)
+}
+
+pub fn crc32_next(running: u32, s: &[u8]) -> u32
+    ensures { λ r. ⌜ r ≡ crcFrom running (now (s .entry)) ⌝ }
+{
+    crc32::crc32_next(running, s)
 }
 
 pub fn header_sum(h: &[u8; 92]) -> u32

@@ -17,8 +17,8 @@ use Rattle.units.specs.Answer.{Answer, accepted, refused, refuse, pick, andThen
 use Rattle.units.specs.Bytes.{part, same}
 use Rattle.units.specs.Places.{goodSize, inside, insideOrEmpty, placeOf, blockOf}
 use Rattle.units.proofs.Laws.{size-range, size-past, place-over, place-fits}
-use Rattle.crc32.specs.Crc.{crc}
-use Rattle.crc32.specs.Register.{crc-empty}
+use Rattle.crc32.specs.Crc.{fresh, crc}
+use Rattle.crc32.specs.Register.{crc-from-empty}
 use Rattle.crc32.specs.HeaderSum.{headerSum}
 use Rattle.header.specs.declared.Header.{Header}
 use Rattle.header.specs.Format.{signature, headerAt}
@@ -104,10 +104,10 @@ module _ (xs : List ℕ) (h : Header) (b : ℕ) where
   parts-refused e = sym (parts-by-place xs h b ∙ rw e)
 
   module _ {p : BytePlace} (e : placeOf (h .«part_start» .0) b ≡ accepted p) where
-    -- no bytes at all: their sum is 0
-    pub parts-none : arrayBytes h ≡ 0 → accepted 0 ≡ partsSum xs h b
+    -- no bytes at all: their sum is that of a fresh start
+    pub parts-none : arrayBytes h ≡ 0 → accepted fresh ≡ partsSum xs h b
     unfolding insideOrEmpty
-    parts-none z = sym (parts-by-place xs h b ∙ rw (e, z) (ap accepted crc-empty))
+    parts-none z = sym (parts-by-place xs h b ∙ rw (e, z) (ap accepted (crc-from-empty fresh)))
 
     module _ {r : Bool} (z : arrayBytes h ≡ 0 → ⊥) (i : r ≡ inside (length xs) (p .0) (arrayBytes h)) where
       pub parts-outside : not r ≡ true → refuse 2 ≡ partsSum xs h b

@@ -106,13 +106,13 @@ pub fn parts_sum<'a>(t: &'a [u32; 4096], img: &'a [u8], h: Header, b: u64) -> Su
         Placed::Refused(w) => SumFound::Refused(w),
         Placed::At(at) => {
             if n == 0 {
-                return SumFound::Sum(0);
+                return SumFound::Sum(crc32::FRESH);
             }
             if !units::is_inside(img.len(), at, n) {
                 return SumFound::Refused(Refusal::Short);
             }
             let a = at.0;
-            SumFound::Sum(crc32::inner::sum(t, &img[a..a + n]))
+            SumFound::Sum(crc32::inner::sum(t, crc32::FRESH, &img[a..a + n]))
         }
     }
 }

@@ -106,7 +106,7 @@ pub fn sum_after<'a>(
     requires { ⌜ after < 2 ^ 20 ⌝ }
     ensures { λ r. ⌜ r ≡ sumAfter sum (now (old .entry)) (now (new .entry)) after ⌝ }
 {
-    let before = crc32::inner::sum(t, old);
-    let behind = crc32::inner::sum(t, new);
+    let before = crc32::inner::sum(t, crc32::FRESH, old);
+    let behind = crc32::inner::sum(t, crc32::FRESH, new);
     sum ^ past_zeros(before ^ behind, after, 0)
 }

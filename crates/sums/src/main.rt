@@ -111,30 +111,124 @@ fn show_rising(n: usize, what: &[u8], ok: &mut bool)
     console::text(b"\n", ok);
 }
 
-// One byte more than the longest input of which there is a sum.
-fn space() -> [u8; 65537] {
-    [0; 65537]
+// Byte `at` of the entry in a slot of a partition table: basic data, a GUID that ends in the slot's number, one block that no other slot has, no flags, the name "map".
+fn entry_byte(slot: u8, at: usize) -> u8
+    requires { ⌜ slot ≤ 128 ⌝ }
+{
+    let guids =
+        b"\xa2\xa0\xd0\xeb\xe5\xb9\x33\x44\x87\xc0\x68\xb6\xb7\x26\x99\xc7\x20\x1c\x3f\x5a\xe7\x11\x6d\x4b\x9c\x04\x02\x42\xac\x11\x00";
+    match at {
+        0..=30 => guids[at],
+        31 => slot,
+        32 | 40 => 33 + slot,
+        56 => b'm',
+        58 => b'a',
+        60 => b'p',
+        _ => 0,
+    }
 }
 
-// The line for the bytes of standard input.
-fn show_sum(bytes: &[u8], ok: &mut bool) {
-    print_sum(crc32::crc32(bytes), ok);
-    console::decimal(bytes.len() as u64, ok);
-    console::text(b" bytes of standard input\n", ok);
+// The entry array of a partition table, all of whose 128 slots are used.
+fn entry_array() -> [u8; 16384]
+    ensures { λ r. ⌜ 16384 ≡ length r ⌝ }
+{
+    let mut bytes = [0; 16384];
+    let mut i = 0;
+    while i < 16384 {
+        bytes[i] = entry_byte((i / 128 + 1) as u8, i % 128);
+        i += 1;
+    }
+    bytes
 }
 
-// A line for all of standard input, if the buffer can hold it. It is read until it ends, which a
-// person who types it has to say only once.
+// The lesser of two numbers.
+fn least(a: usize, b: usize) -> usize
+    ensures { λ r. ⌜ (r ≤ a) × (r ≤ b) ⌝ }
+{
+    if a < b { a } else { b }
+}
+
+// The sum of the bytes in pieces, each as long as `cuts` says, as far as there are bytes, and then what is left. Wherever they are cut, it is the sum of them all.
+fn sum_cut<'a>(bytes: &'a [u8], cuts: &'a [usize]) -> u32
+    ensures { λ r. ⌜ r ≡ crc (now (bytes .entry)) ⌝ }
+{
+    let mut sum = crc32::FRESH;
+    let mut i = 0;
+    let mut k = 0;
+    while k < cuts.len() {
+        let n = least(cuts[k], bytes.len() - i);
+        sum = crc32::crc32_next(sum, &bytes[i..i + n]);
+        i += n;
+        k += 1;
+    }
+    crc32::crc32_next(sum, &bytes[i..])
+}
+
+// A line for bytes that are summed piece by piece.
+fn show_cut<'a>(bytes: &'a [u8], cuts: &'a [usize], what: &[u8], ok: &mut bool) {
+    print_sum(sum_cut(bytes, cuts), ok);
+    console::text(what, ok);
+    console::text(b"\n", ok);
+}
+
+// One entry array, whole, block by block for both block sizes, and cut unevenly, with pieces of no bytes.
+fn show_array(ok: &mut bool) {
+    let array = entry_array();
+    show(&array, b"an entry array, 128 slots used", ok);
+    show_cut(
+        &array,
+        &[512; 32],
+        b"the same array, block by block of 512 bytes",
+        ok,
+    );
+    show_cut(
+        &array,
+        &[4096; 4],
+        b"the same array, block by block of 4096 bytes",
+        ok,
+    );
+    show_cut(
+        &array,
+        &[0, 1, 127, 129, 0, 511, 4097, 3, 8192],
+        b"the same array, cut unevenly",
+        ok,
+    );
+}
+
+// What standard input came to: the sum of its bytes and how many they are, or that a read failed.
+enum Summed {
+    Of(u32, u64),
+    Failed,
+}
+
+// The sum of standard input, which goes on from piece to piece until it ends; a person who types it has to say the end only once. A proved loop has to end: this one would where
+// 64 bits could count no further piece, which no run comes to.
+fn sum_input() -> Summed {
+    let mut buf = io::large_buffer();
+    let mut sum = crc32::FRESH;
+    let mut length: u64 = 0;
+    while length < u64::MAX - 65536 {
+        let n = match console::read_piece(&mut buf) {
+            Input::Failed => return Summed::Failed,
+            Input::Bytes(n) => n,
+        };
+        if n == 0 {
+            return Summed::Of(sum, length);
+        }
+        sum = crc32::crc32_next(sum, &buf[..n]);
+        length += n as u64;
+    }
+    Summed::Of(sum, length)
+}
+
+// The line for standard input.
 fn show_input(ok: &mut bool) {
-    let mut buf = space();
-    match console::read_input(&mut buf) {
-        Input::Failed => console::complain(b"sums: cannot read the input\n"),
-        Input::Bytes(n) => {
-            if 65536 < n {
-                console::text(b"too long\n", ok);
-            } else {
-                show_sum(&buf[..n], ok);
-            }
+    match sum_input() {
+        Summed::Failed => console::complain(b"sums: cannot read the input\n"),
+        Summed::Of(sum, length) => {
+            print_sum(sum, ok);
+            console::decimal(length, ok);
+            console::text(b" bytes of standard input\n", ok);
         }
     }
 }
@@ -202,7 +296,7 @@ fn show_png_chunks(ok: &mut bool) {
     );
 }
 
-// Runs and sequences, up to the longest that the buffer holds. 512 bytes are a block of most
+// Runs and sequences of up to 65,536 bytes. 512 bytes are a block of most
 // disks, and 16,384 bytes of zero are the array of 128 unused entries of a partition table.
 fn show_sequences(ok: &mut bool) {
     show_run(0, 32, ok);
@@ -228,6 +322,7 @@ fn show_vectors(ok: &mut bool) {
     show_few_bytes(ok);
     show_png_chunks(ok);
     show_sequences(ok);
+    show_array(ok);
 }
 
 // The vectors, and then the input, unless the vectors could not be written.
@@ -242,7 +337,7 @@ fn run(ok: &mut bool) {
 fn main() {
     let mut ok = true;
     if console::no_arguments(
-        b"usage: sums < BYTES (65,536 at most; the exit status is always 0, so read what is printed)\n",
+        b"usage: sums < BYTES (any number of them; the exit status is always 0, so read what is printed)\n",
         &mut ok,
     ) {
         run(&mut ok);

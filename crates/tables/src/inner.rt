@@ -141,7 +141,7 @@ pub fn array_sum<'a>(t: &'a [u32; 4096], copy: &'a [u8], b: u64, back: bool) -> 
 {
     let array = array_in(b, back);
     let at = array.0;
-    crc32::inner::sum(t, &copy[at..at + 16384])
+    crc32::inner::sum(t, crc32::FRESH, &copy[at..at + 16384])
 }
 
 // The header of a card on one side, before it has its sums.

@@ -161,6 +161,17 @@ pub fn list(image: &[u8], block_size: BlockSize) -> Result<Listing, Refusal> {
     Ok(Listing { rows: rows.into_iter() })
 }
 
+/// The sum of nothing, from which [`crc32_next`] starts a new sum.
+pub const FRESH: u32 = 0;
+
+/// The check sum CRC-32/ISO-HDLC that goes on over `bytes`: `running` is the sum of the bytes before them, or [`FRESH`] where there are none.
+///
+/// Pieces that are summed one after the other, each from the answer before it, give the sum of all their bytes, wherever they are cut.
+pub fn crc32_next(running: u32, bytes: &[u8]) -> u32 {
+    // SAFETY: the pointer and the length are those of one slice, which is only read; a slice's pointer is not null, also where it is empty.
+    unsafe { ffi::gpt_crc32_next(running, bytes.as_ptr(), bytes.len()) }
+}
+
 /// The entries that [`list`] gives. It holds what the card held when it was made.
 #[derive(Clone)]
 pub struct Listing {

@@ -90,6 +90,7 @@ functions! {
     fn card_nth_used(img: *const u8, img_len: usize, b: u64, k: u32) -> card_used_read;
     fn card_list(img: *const u8, img_len: usize, b: u64, out: *mut u8, out_len: usize) -> gpt_count;
     fn gpt_crc32(bytes: *const u8, bytes_len: usize) -> u32;
+    fn gpt_crc32_next(running: u32, bytes: *const u8, bytes_len: usize) -> u32;
     fn gpt_read_primary_header(img: *const u8, img_len: usize, b: u64) -> gpt_header_read;
     fn gpt_read_backup_header(img: *const u8, img_len: usize, b: u64) -> gpt_header_read;
     fn gpt_find_backup_lba(len: usize, b: u64) -> gpt_block;

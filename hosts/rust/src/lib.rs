@@ -22,7 +22,7 @@
 //!
 //! Every call takes every image and every number. It ends, and accepts or gives a [`Refusal`]; a refused call changes no byte of the image.
 //! That is proved of the library; that this crate hands the bytes over rightly is not proved, but tested. The ported calls on headers, entries and the MBR are
-//! in [`ffi`], as C has them.
+//! in [`ffi`], as C has them. [`crc32_next`] is the check sum of bytes that come in pieces.
 //!
 //! A program takes the crate by its path, `card = { path = "../dirozhal/hosts/rust" }`, and needs no registry. The crate links `libcard.a`, which `make lib`
 //! writes, from the folder that the environment names in `CARD_LIB_DIR`, or else from the repository's `target/lib`.
@@ -40,7 +40,7 @@ mod refusal;
 #[path = "../tests/repository/mod.rs"]
 mod repository;
 
-pub use calls::{check, get, list, BlockSize, Card, Listing, SLOTS};
+pub use calls::{check, crc32_next, get, list, BlockSize, Card, Listing, FRESH, SLOTS};
 pub use guid::{Guid, GuidError};
 pub use record::{Entry, Name, NameError, Record};
 pub use refusal::Refusal;

@@ -1,5 +1,5 @@
 //! The card calls one by one: what they accept, each refusal that they can give, and that a refused call changes no byte.
-use card::{check, get, list, BlockSize, Card, Entry, Guid, GuidError, Name, NameError, Record, Refusal, SLOTS};
+use card::{check, crc32_next, get, list, BlockSize, Card, Entry, Guid, GuidError, Name, NameError, Record, Refusal, FRESH, SLOTS};
 use BlockSize::{B4096, B512};
 
 mod repository;
@@ -253,6 +253,24 @@ fn a_lone_surrogate_is_kept() {
     card.put(1, &Record { name, ..record(34, 34, "") }).unwrap();
     assert_eq!(card.get(1).unwrap().unwrap().name.raw(), &units);
     assert_eq!(card.list().unwrap().next().unwrap().record.name.raw(), &units);
+}
+
+#[test]
+fn a_sum_goes_on_from_piece_to_piece() {
+    let image = laid(B512, 68);
+    let array = &image[1024..1024 + 16384];
+    let in_pieces = |length: usize| array.chunks(length).fold(FRESH, crc32_next);
+    for length in [1, 127, 128, 512, 4096, 4097, 16384] {
+        assert_eq!(in_pieces(length), crc32(array), "pieces of {length} bytes");
+    }
+    for cut in 0..=9 {
+        let (front, rest) = b"123456789".split_at(cut);
+        assert_eq!(crc32_next(crc32_next(FRESH, front), rest), 0xcbf4_3926, "cut at {cut}");
+    }
+    for running in [FRESH, 1, 0x89ab_cdef, u32::MAX] {
+        assert_eq!(crc32_next(running, b""), running);
+    }
+    assert_eq!((crc32_next(1, b"123456789"), crc32_next(u32::MAX, b"123456789")), (0xdc8f_2d65, 0xd202_d277)); // zlib's
 }
 
 #[test]

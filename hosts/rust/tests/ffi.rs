@@ -33,6 +33,7 @@ fn an_entry_goes_to_the_array_and_comes_back() {
         assert_eq!((gpt_is_used(partition), gpt_is_used(card_row::ZERO.partition)), (1, 0));
         assert_eq!(gpt_bytes_start(partition, 512), gpt_place { number: 0, place: 34 * 512 });
         assert_eq!(gpt_crc32(b"123456789".as_ptr(), 9), 0xcbf4_3926);
+        assert_eq!(gpt_crc32_next(gpt_crc32(b"1234".as_ptr(), 4), b"56789".as_ptr(), 5), 0xcbf4_3926);
     }
 }
 

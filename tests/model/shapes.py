@@ -1,0 +1,51 @@
+"""Tries, without the library, that what library.py declares is what the model's calls take and answer."""
+
+import inspect
+
+import cases
+import coverage
+import library
+import model
+from draws import Draw
+
+
+def wrong_values(rounds=100):
+    """Values of the model that come back changed from the C structure that holds them."""
+    draw = Draw(rounds)
+    for _ in range(rounds):
+        for kind, value in (
+            (library.GUID, draw.guid()),
+            (library.PARTITION, draw.record()),
+            (library.HEADER, draw.header()),
+            (library.SETTINGS, draw.settings(512)),
+            (library.RECORD, draw.mbr_record()),
+            (library.MBR, draw.mbr()),
+        ):
+            back = library.plain(kind, library.native(kind, value))
+            if back != value:
+                yield f"{kind.__name__}: {value!r:.200} comes back as {back!r:.200}"
+
+
+def wrong_names():
+    """Calls that one of the lists of calls has and another has not."""
+    drawn = {**cases.ON_IMAGE, **cases.LOOSE}
+    for place, names in {"library.py": library.DECLARED, "cases.py": drawn, "coverage.py": coverage.NUMBERS}.items():
+        for name in sorted(set(names) ^ set(model.CALLS)):
+            yield f"{name}: {place} has it and the model has not, or the other way round"
+
+
+def wrong_calls():
+    """Declared calls whose arguments, lent slices or fields beside a refusal are not those of the model's call."""
+    for name, (result, *kinds) in library.DECLARED.items():
+        call = model.CALLS[name]
+        lent = tuple(i for i, kind in enumerate(kinds) if kind is library.LENT)
+        if len(inspect.signature(call).parameters) != len(kinds) or lent != call.lent:
+            yield f"{name}: its arguments are not the model's"
+        if library.has_number(result) and library.answered(result, result())[1:] != (call.zero,):
+            yield f"{name}: the fields of its answer are not the model's"
+
+
+def wrong():
+    """Everything of library.py that is not as the model has it."""
+    names = list(wrong_names())
+    return names or [*wrong_values(), *wrong_calls()]
