@@ -1,6 +1,7 @@
-// Measures the card calls on images in memory, in one run: both block sizes, 1 and 120 used slots, images of 1 MiB and 64 MiB. Each time is the median of many
-// samples. Then it says how much stack each call takes, by painting a thread's stack and looking for what was overwritten.
+// Measures the card calls on images in memory, in one run: both block sizes, 1 and 120 used slots, images of 1 MiB and 64 MiB; and 120 used slots whose partition
+// GUIDs all have one number in the set by which twins are found. Each time is the median of many samples. Then it says how much stack each call takes, by painting a thread's stack and looking for what was overwritten.
 #include <pthread.h>
+#include <stdbool.h>
 #include <stdint.h>
 #include <stdio.h>
 #include <stdlib.h>
@@ -14,6 +15,7 @@ static uint8_t *img;
 static size_t len;
 static uint64_t block;
 static uint32_t used_slots;
+static bool alike;
 static uint8_t payload[PAYLOAD];
 static card_row rows[128];
 static volatile uint64_t sink;
@@ -29,9 +31,10 @@ static int by_size(const void *a, const void *b) {
     return (x > y) - (x < y);
 }
 
-// Slot s has PAYLOAD bytes, right after slot s - 1.
+// Slot s has PAYLOAD bytes, right after slot s - 1. Where the GUIDs are to be alike, both halves of each are the same: then the number of each is 0.
 static gpt_partition record(uint32_t s) {
     gpt_partition p = {.part_type_guid = {.time_low = 0xEBD0A0A2}, .part_guid = {.time_low = s}, .name = {'m', 'a', 'p'}};
+    if (alike) memcpy(p.part_guid.tail, &p.part_guid, sizeof p.part_guid.tail);
     uint64_t blocks = PAYLOAD / block;
     p.first_lba = 2 + ARRAY / block + (s - 1) * blocks;
     p.last_lba = p.first_lba + blocks - 1;
@@ -106,6 +109,15 @@ static size_t stack_of(call_fn f) {
     return STACK - free_bytes;
 }
 
+static void row(size_t bytes, uint64_t b, uint32_t used, const char *note) {
+    double t[KINDS];
+    prepare(bytes, b, used);
+    measure(t);
+    printf("%2zu MiB %6llu %5u", bytes >> 20, (unsigned long long)b, used);
+    for (int k = 0; k < KINDS; k++) printf(" %14.2f", t[k] / 1000);
+    printf("%s\n", note);
+}
+
 int main(void) {
     static const size_t sizes[] = {1 << 20, 64 << 20};
     static const uint64_t blocks[] = {512, 4096};
@@ -117,14 +129,10 @@ int main(void) {
     printf("\n");
     for (int i = 0; i < 2; i++)
         for (int j = 0; j < 2; j++)
-            for (int u = 0; u < 2; u++) {
-                double t[KINDS];
-                prepare(sizes[i], blocks[j], used[u]);
-                measure(t);
-                printf("%2zu MiB %6llu %5u", sizes[i] >> 20, (unsigned long long)blocks[j], used[u]);
-                for (int k = 0; k < KINDS; k++) printf(" %14.2f", t[k] / 1000);
-                printf("\n");
-            }
+            for (int u = 0; u < 2; u++) row(sizes[i], blocks[j], used[u], "");
+    alike = true;
+    row(1 << 20, 512, 120, "  all GUIDs of one number");
+    alike = false;
     prepare(1 << 20, 512, 120);
     size_t none = stack_of(do_nothing);
     printf("\nbytes of stack, beside the %zu of a thread that calls nothing (the check sum's table is 16,384 of them)\n", none);

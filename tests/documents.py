@@ -32,6 +32,8 @@ NOT_RUN = {
     "make differential-slips": "it takes minutes",
     "make install": "make install-test runs it, into an empty folder",
     "make uninstall": "the same",
+    "sgdisk -u 2:R": "make interop runs it",
+    "sgdisk -u SLOT:R": "the same, for slot 2",
     "target/stack each": "make boundary runs the program without the word, and what it prints is read off by hand",
     "make rust-outside": "make rust runs it",
     "cargo run --release --bin tape": "make differential runs the same program, which then compares and does not write",

@@ -64,8 +64,8 @@ NUMBERS = {
     22: ("Overlap", "a block that another slot has"),
     23: ("EmptySlot", "the slot is not used"),
     24: ("PastPartition", "the bytes pass the partition's end"),
-    # No call gives a number from 25 on yet: each comes with its change request.
     25: ("TwinGuid", "a partition GUID that another slot has"),
+    # No call gives a number from 26 on yet: each comes with its change request.
     26: ("WrongStage", "the stage is not the next one of this update"),
     27: ("NoGoodCopy", "neither table of the card can be read"),
     28: ("ReservedFlag", "a flag that UEFI keeps reserved"),
@@ -285,7 +285,7 @@ def check(image, block_size):
 
 
 def put(image, block_size, slot, record):
-    """Puts a record into a slot of both tables. The check's numbers, then 18, 19, 20, 21, 22."""
+    """Puts a record into a slot of both tables. The check's numbers, then 18, 19, 20, 21, 22, 25."""
     with _lent(image, written=True) as lent:
         _take(_put(*lent, _blocks(block_size), _number(slot, 32, "the slot"), _record(record)))
 

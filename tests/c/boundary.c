@@ -39,10 +39,11 @@ static void zeros_at(int line, const char *what, const void *got, size_t n) {
 
 static const gpt_guid disk = {0x03020100, 0x0504, 0x0706, {8, 9, 10, 11, 12, 13, 14, 15}};
 
+/* A record with these blocks, and with a GUID by the first of them. */
 static gpt_partition some(uint64_t first, uint64_t last) {
     gpt_partition p = {
         .part_type_guid = {0xA3A2A1A0, 0xA5A4, 0xA7A6, {0xA8, 0xA9, 0xAA, 0xAB, 0xAC, 0xAD, 0xAE, 0xAF}},
-        .part_guid = {0xB3B2B1B0, 0xB5B4, 0xB7B6, {0xB8, 0xB9, 0xBA, 0xBB, 0xBC, 0xBD, 0xBE, 0xBF}},
+        .part_guid = {(uint32_t)(0xB3B2B1B0 + first), 0xB5B4, 0xB7B6, {0xB8, 0xB9, 0xBA, 0xBB, 0xBC, 0xBD, 0xBE, 0xBF}},
         .first_lba = first,
         .last_lba = last,
         .flags = 0xC7C6C5C4C3C2C1C0,
@@ -90,6 +91,43 @@ static void puts_two(void) {
     SAME(a.slot, 7);
     KEPT();
     SAME(card_put(img, LEN, BLOCK, 128, q).number, 0);
+}
+
+/* Stores an entry in both arrays and both headers with their new sums, by the ported calls alone. */
+static void store_both(gpt_partition p, uint64_t index) {
+    gpt_header front = gpt_read_primary_header(img, LEN, BLOCK).header, back = gpt_read_backup_header(img, LEN, BLOCK).header;
+    SAME(gpt_write_entry(img, LEN, p, index, front.part_start, BLOCK, 128).number, 0);
+    SAME(gpt_write_entry(img, LEN, p, index, back.part_start, BLOCK, 128).number, 0);
+    SAME(gpt_write_primary(img, LEN, front, BLOCK).number, 0);
+    SAME(gpt_write_backup(img, LEN, back, BLOCK).number, 0);
+}
+
+/* Slots 7 and 128 with one partition GUID: put does not make such a card, every card call but lay refuses it, and the ported calls read and mend it. */
+static void twins(void) {
+    gpt_partition p = some(35, 36), q = some(34, 34), twin = q;
+    twin.part_guid = p.part_guid;
+    memcpy(before, img, LEN);
+    card_answer a = card_put(img, LEN, BLOCK, 128, twin);
+    SAME(a.number, CARD_TWIN_GUID);
+    SAME(a.slot, 7);
+    KEPT();
+    SAME(card_put(img, LEN, BLOCK, 128, q).number, 0);
+    KEPT();
+    store_both(twin, 127);
+    a = card_check(img, LEN, BLOCK);
+    SAME(a.number, CARD_WRONG_LAYOUT);
+    SAME(a.slot, 0);
+    SAME(card_clear(img, LEN, BLOCK, 128).number, CARD_WRONG_LAYOUT);
+    SAME(card_put(img, LEN, BLOCK, 128, q).number, CARD_WRONG_LAYOUT);
+    SAME(card_count_used(img, LEN, BLOCK).number, CARD_WRONG_LAYOUT);
+    gpt_header front = gpt_read_primary_header(img, LEN, BLOCK).header;
+    SAME(gpt_count_partitions(img, LEN, front, BLOCK).count, 2);
+    gpt_slot_read r = gpt_read_partition(img, LEN, front, BLOCK, 128);
+    SAME(r.present, 1);
+    BYTES(&r.partition, &twin, 128);
+    store_both(q, 127);
+    SAME(card_check(img, LEN, BLOCK).number, 0);
+    KEPT();
 }
 
 static void counts(void) {
@@ -533,6 +571,7 @@ static void mbrs(void) {
 int main(void) {
     cards();
     puts_two();
+    twins();
     counts();
     reads();
     lists();

@@ -24,8 +24,10 @@ static gpt_partition map = {.part_type_guid = {1, 2, 3, {4}}};
 static gpt_header header;
 static volatile uint32_t number;
 
+/* A record of one block, and with a GUID by it. */
 static gpt_partition in_block(uint64_t block) {
     gpt_partition p = map;
+    p.part_guid.time_low = (uint32_t)block;
     p.first_lba = p.last_lba = block;
     return p;
 }

@@ -72,8 +72,8 @@ def sums():
         show(size, blocks, [])
         show(size, blocks, [entry(1, first, first, "")])
     for size, blocks, first in ((512, 70, 34), (4096, 14, 6)):
-        show(size, blocks, [empty] * 3 + [entry(1, first, first, "map\ud800", 2 ** 63 + 1), empty, entry(1, first + 1, first + 2, "A" * 36)])
-        two = [entry(1, first, first, ""), entry(1, first + 1, first + 2, "")]
+        show(size, blocks, [empty] * 3 + [entry(4, first, first, "map\ud800", 2 ** 63 + 1), empty, entry(6, first + 1, first + 2, "A" * 36)])
+        two = [entry(1, first, first, ""), entry(2, first + 1, first + 2, "")]
         show(size, blocks, two)
         show(size, blocks, two)
 

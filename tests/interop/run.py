@@ -132,6 +132,11 @@ def others(folder):
     run("sgdisk", "-a", "1", "-o", "-n", "1:40:99", "-n", "2:100:200", "-c", "1:north", path)
     taken_over("a card that sgdisk made", path, 512, [(1, 40, 99), (2, 100, 200)])
     fresh(512, blocks)
+    run("sgdisk", "-a", "1", "-o", "-n", "1:40:99", "-n", "2:100:200", "-u", f"1:{DISK}", "-u", f"2:{DISK}", path)
+    step("a card that sgdisk made with one partition GUID in two slots: 16", refusal(lambda: card.check(load(path), 512)) == 16, str(refusal(lambda: card.check(load(path), 512))))
+    run("sgdisk", "-u", "2:R", path)
+    taken_over("the same card once sgdisk has drawn another GUID for slot 2", path, 512, [(1, 40, 99), (2, 100, 200)])
+    fresh(512, blocks)
     run("sfdisk", path, text="label: gpt\nfirst-lba: 34\nlast-lba: 2014\nstart=50, size=10\nstart=60, size=100\n")
     taken_over("a small card that sfdisk made", path, 512, [(1, 50, 59), (2, 60, 159)])
     for size, count in ((512, blocks), (4096, 256)):

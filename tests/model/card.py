@@ -7,7 +7,7 @@ import entries
 import headers
 import mbr
 from sums import crc32
-from units import ALL_32, Refused, call, need_block_size
+from units import ALL_32, NIL, Refused, call, need_block_size
 
 SLOTS = 128
 ARRAY = 16384
@@ -63,7 +63,7 @@ def checked_table(img, last, primary, b):
 
 def checked_entries(array, first, last):
     """Document 01, Card check: 16 if an entry is neither all zero nor of non-nil type with first <= last inside the usable blocks, or two
-    share a block."""
+    share a block. Document 02, 3/13: equal GUIDs in two used slots are a wrong layout too, nil ones among them."""
     used = {slot: entries.record_from(entries.entry_at(array, slot)) for slot in entries.present_slots(array)}
     for record in used.values():
         if not entries.used(record):
@@ -75,6 +75,8 @@ def checked_entries(array, first, last):
     ranges = sorted((record.first_lba, record.last_lba) for record in used.values())
     if any(one[1] >= two[0] for one, two in zip(ranges, ranges[1:])):
         raise Refused(16, "two share a block")
+    if len({record.part_guid for record in used.values()}) < len(used):
+        raise Refused(16, "two share a GUID")
     return used
 
 
@@ -97,6 +99,23 @@ def need_slot(slot):
         raise Refused(18)
 
 
+def share_a_block(one, two):
+    """Document 01, Numbers: 22 if put shares a block with another used slot."""
+    return one.first_lba <= two.last_lba and two.first_lba <= one.last_lba
+
+
+def need_own_blocks_and_guid(card, slot, record):
+    """Document 01, Put: 22 with the lowest other slot that shares a block. Document 02, 3/13: 25 with the lowest other slot
+    that has the GUID, after 22 as a whole and not slot by slot; "replacing a slot with its own GUID stays allowed"."""
+    others = [(other, held) for other, held in sorted(card.used.items()) if other != slot]
+    overlap = [other for other, held in others if share_a_block(held, record)]
+    twins = [other for other, held in others if held.part_guid == record.part_guid]
+    if overlap:
+        raise Refused(22, "with 25 of a lower slot" if twins and twins[0] < overlap[0] else "", values=(overlap[0],))
+    if twins:
+        raise Refused(25, "nil" if record.part_guid == NIL else "not nil", values=(twins[0],))
+
+
 def store_slot(img, card, slot, raw, b):
     """Document 01, Put and Clear: the slot's 128 bytes in both arrays; the other slots keep their bytes, the header blocks are rewritten."""
     start = entries.ENTRY * (slot - 1)
@@ -113,7 +132,8 @@ def card_check(img, b):
 
 @call(zero=(0,), lent=(0,))
 def card_put(img, b, slot, record):
-    """Document 01, Put: the check, 18, 19, 20, 21, 22 with the lowest slot; name units after the first zero are cleared."""
+    """Document 01, Put: the check, 18, 19, 20, 21, 22; document 02, 3/13: then 25. Name units after the first zero are
+    cleared."""
     card = check(img, b)
     need_slot(slot)
     if not entries.used(record):
@@ -122,9 +142,7 @@ def card_put(img, b, slot, record):
         raise Refused(20)
     if record.first_lba < card.usable[0] or record.last_lba > card.usable[1]:
         raise Refused(21, "first" if record.first_lba < card.usable[0] else "last")
-    for other, held in sorted(card.used.items()):
-        if other != slot and held.first_lba <= record.last_lba and record.first_lba <= held.last_lba:
-            raise Refused(22, values=(other,))
+    need_own_blocks_and_guid(card, slot, record)
     store_slot(img, card, slot, entries.record_bytes(record._replace(name=entries.cleared(record.name))), b)
     return (0,)
 

@@ -6,7 +6,9 @@ import headers
 import images
 import model
 from draws import BAD_BLOCK_SIZES, ENTRY_SIZES, SLOTS
+from entries import record_from
 from sums import FRESH, crc32
+from units import NIL
 
 
 def slot(draw, image, b):
@@ -45,6 +47,38 @@ def put_record(draw, image, b):
     if kind < 11:
         return draw.record([card.first_usable, card.last_usable])
     return record
+
+
+def put_guid(draw, image, b, at, record):
+    """A record for put with a GUID of the card: the slot's own, another's, nil, or one bit beside such a one; at times
+    with the blocks of one used slot and the GUID of a lower one, else mostly on free ground."""
+    held = images.used_guids(image, b)
+    kind = draw.below(7)
+    if kind == 0 and len(held) > 1:
+        low, high = sorted(draw.random.sample(sorted(held), 2))
+        first, last = images.used_blocks(image, b)[high]
+        return record._replace(part_guid=held[low], first_lba=first, last_lba=last)
+    free = images.free_blocks(image, b)
+    if free and draw.chance(75):
+        first = draw.pick(free)
+        record = record._replace(first_lba=first, last_lba=first)
+    guid = NIL if kind == 1 else held[draw.pick([at] if kind == 2 and at in held else sorted(held))]
+    return record._replace(part_guid=draw.near_guid(guid) if kind == 3 else guid)
+
+
+def put_call(draw, image, b):
+    """The arguments of put; at times with a GUID of the card, or with a used slot's own GUID and its blocks or others."""
+    size, at = size_and_slot(draw, image, b)
+    record = put_record(draw, image, b)
+    held = images.used_entries(image, b)
+    kind = draw.below(10)
+    if not held or kind < 5:
+        return size, at, record
+    if kind < 9:
+        return size, at, put_guid(draw, image, b, at, record)
+    at = draw.pick(sorted(held))
+    own = record_from(held[at])
+    return size, at, draw.pick((own._replace(name=record.name), record._replace(part_guid=own.part_guid)))
 
 
 def payload(draw, image, b):
@@ -171,7 +205,7 @@ def header_write(draw, image, b):
 ON_IMAGE = {
     "card_lay": lambda draw, image, b: (draw.block_size(b), draw.guid()),
     "card_check": size_only,
-    "card_put": lambda draw, image, b: (*size_and_slot(draw, image, b), put_record(draw, image, b)),
+    "card_put": put_call,
     "card_clear": size_and_slot,
     "card_write_payload": payload,
     "card_count_used": size_only,

@@ -1,4 +1,5 @@
-"""How often each number, and each of several tests with one number, was seen; and which must be seen, from card.h and document 01."""
+"""How often each number, and each of several tests with one number, was seen; and which must be seen, from card.h and the
+documents."""
 
 from collections import Counter
 
@@ -6,7 +7,7 @@ CHECK = {0, 1, 8, 10, 4, 5, 16, 6, 17}
 NUMBERS = {
     "card_lay": {0, 1, 8, 10},
     "card_check": CHECK,
-    "card_put": CHECK | {18, 19, 20, 21, 22},
+    "card_put": CHECK | {18, 19, 20, 21, 22, 25},
     "card_clear": CHECK | {18},
     "card_write_payload": CHECK | {18, 23, 24},
     "card_count_used": CHECK,
@@ -62,13 +63,15 @@ CHECK_STEPS = {(number, side) for number in (4, 5, 16, 6) for side in ("front", 
     (16, "last below first"),
     (16, "outside usable"),
     (16, "two share a block"),
+    (16, "two share a GUID"),
 }
+PUT_STEPS = {(21, "first"), (21, "last"), (22, "with 25 of a lower slot"), (25, "nil"), (25, "not nil")}
 PRODUCTS = {(3, step) for step in ("start product", "index product", "sum of the products", "end")}
 WRITES = {(3, "array start"), (2, "array"), (3, "own place"), (2, "own place")}
 BUILDS = {(3, "count times size"), (10, "backup too early"), (10, "first above last"), (3, "array start")}
 STEPS = {
     "card_check": CHECK_STEPS,
-    "card_put": CHECK_STEPS | {(21, "first"), (21, "last")},
+    "card_put": CHECK_STEPS | PUT_STEPS,
     "gpt_slot_sum": {(2, "was"), (2, "is")},
     "gpt_write_primary": WRITES,
     "gpt_write_backup": WRITES,

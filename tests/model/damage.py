@@ -4,6 +4,7 @@ import struct
 
 import images
 from entries import record_bytes
+from units import NIL, guid_bytes
 
 SIDES = (("front",), ("back",), ("front", "back"))
 
@@ -14,6 +15,12 @@ def seal(draw, b, sides, percent=70):
         return []
     with_array = draw.chance(85)
     return [("seal", b, side == "front", with_array) for side in sides]
+
+
+def in_arrays(card, sides, slot, place, data):
+    """Stores of bytes at a place of a slot's entry, in the arrays of these sides."""
+    arrays = {"front": card.front_array, "back": card.back_array}
+    return [("store", arrays[side] + 128 * (slot - 1) + place, data) for side in sides]
 
 
 def bit(draw, image, b):
@@ -128,8 +135,24 @@ def entry(draw, image, b):
     slot = draw.pick(used + [1, 128, 1 + draw.below(128)])
     raw = odd_entry(draw, image, b, card)
     sides = draw.pick(SIDES + (("front", "back"),) * 3)
-    arrays = {"front": card.front_array, "back": card.back_array}
-    return [("store", arrays[side] + 128 * (slot - 1), raw) for side in sides] + seal(draw, b, sides, 85)
+    return in_arrays(card, sides, slot, 0, raw) + seal(draw, b, sides, 85)
+
+
+def twin_guid(draw, image, b):
+    """One used slot's GUID in another used slot, at times of the lowest and the highest; or nil in both, or a GUID one bit
+    beside it; mostly in both arrays and with the sums repaired. With fewer than two used slots it is an odd entry."""
+    card = images.places(len(image), b)
+    held = images.used_guids(image, b)
+    if not card or len(held) < 2:
+        return entry(draw, image, b)
+    one, two = draw.random.sample(draw.pick((sorted(held), sorted(held), (min(held), max(held)))), 2)
+    kind = draw.below(6)
+    guid = NIL if kind == 0 else draw.near_guid(held[one]) if kind == 1 else held[one]
+    sides = draw.pick(SIDES + (("front", "back"),) * 3)
+    steps = in_arrays(card, sides, two, 16, guid_bytes(guid))
+    if kind == 0:
+        steps += in_arrays(card, sides, one, 16, guid_bytes(guid))
+    return steps + seal(draw, b, sides, 90)
 
 
 def name_tail(draw, image, b):
@@ -140,10 +163,8 @@ def name_tail(draw, image, b):
     if not card or not used:
         return []
     sides = draw.pick(SIDES + (("front", "back"),) * 3)
-    place = 128 * (draw.pick(used) - 1) + 56 + 2 * draw.below(35)
-    data = b"\0\0" + draw.data(2)
-    arrays = {"front": card.front_array, "back": card.back_array}
-    return [("store", arrays[side] + place, data) for side in sides] + [("seal", b, side == "front", True) for side in sides]
+    steps = in_arrays(card, sides, draw.pick(used), 56 + 2 * draw.below(35), b"\0\0" + draw.data(2))
+    return steps + [("seal", b, side == "front", True) for side in sides]
 
 
 def disk_guid(draw, image, b):
@@ -173,7 +194,8 @@ def foreign_header(draw, image, b):
 
 
 ON_SHORT = (bit, length, block_zero, foreign_header, foreign_header, foreign_header)
-ON_CARD = (bit, bit, field, field, field, signature, after_header, length, swap, entry, entry, entry, entry, name_tail, name_tail, disk_guid)
+ON_ENTRIES = (entry, entry, entry, entry, name_tail, name_tail, twin_guid, twin_guid)
+ON_CARD = (bit, bit, field, field, field, signature, after_header, length, swap, disk_guid) + ON_ENTRIES
 KINDS = ON_CARD + (block_zero, foreign_header)
 
 

@@ -6,7 +6,7 @@ import builder
 import entries
 import headers
 import mbr
-from units import NIL, Guid
+from units import NIL, Guid, guid_bytes, guid_from
 
 EDGES = [0, 1, 2, 2**31 - 1, 2**31, 2**32 - 2, 2**32 - 1, 2**32, 2**52 - 1, 2**52, 2**55 - 1, 2**55, 2**63 - 1, 2**63, 2**64 - 2, 2**64 - 1]
 BAD_BLOCK_SIZES = [0, 1, 511, 513, 1024, 4095, 4097, 2**32 + 512, 2**32 + 4096, 2**63 + 512, 2**64 - 1]
@@ -53,7 +53,17 @@ class Draw:
             return NIL
         if kind == 1:
             return self.pick([Guid(1, 0, 0, bytes(8)), Guid(0, 1, 0, bytes(8)), Guid(0, 0, 256, bytes(8)), Guid(0, 0, 0, bytes(7) + b"\1")])
-        return Guid(self.random.getrandbits(32), self.random.getrandbits(16), self.random.getrandbits(16), self.data(8))
+        return self.any_guid()
+
+    def any_guid(self):
+        """A GUID that no other slot has, but for a chance that never comes."""
+        return guid_from(self.data(16))
+
+    def near_guid(self, guid):
+        """A GUID that differs from the given one in one bit."""
+        raw = bytearray(guid_bytes(guid))
+        raw[self.below(16)] ^= 1 << self.below(8)
+        return guid_from(bytes(raw))
 
     def name(self):
         """36 units: empty, plain, full, with a zero inside, or with lone surrogates."""

@@ -3,12 +3,13 @@ published check sums and what document 02 changes."""
 
 import builder
 import entries
+import fixed_twins
 import headers
 import mbr
+from known import GUID
 from sums import FRESH, crc32, crc32_by_bits, crc32_next
-from units import NIL, guid_from
+from units import NIL
 
-GUID = guid_from(bytes(range(16)))
 VECTORS = ((b"", 0), (b"123456789", 0xCBF43926), (b"a", 0xE8B7BE43), (bytes(32), 0x190A55AD), (b"\xff" * 32, 0xFF6CAB0B))
 
 
@@ -94,7 +95,7 @@ def card_cases(calls):
     yield "nil type", calls["card_put"](image, 512, 1, record._replace(part_type_guid=NIL))[0], 19
 
 
-GROUPS = (built_fields, small_cases, running_cases, card_cases)
+GROUPS = (built_fields, small_cases, running_cases, card_cases, *fixed_twins.GROUPS)
 
 
 def wrong(calls):

@@ -8,6 +8,7 @@ import entries
 import headers
 import model
 from sums import crc32
+from units import guid_from
 
 FIELDS = {
     "revision": (8, 4),
@@ -84,17 +85,23 @@ def made(steps):
     return made_from(b"", steps)
 
 
-def used_blocks(image, b):
-    """The used slots in the front array with their first and last blocks, as the bytes have them."""
+def used_entries(image, b):
+    """The used slots in the front array with their 128 bytes."""
     card = places(len(image), b)
     if card is None:
         return {}
     array = image[card.front_array : card.front_array + 16384]
-    found = {}
-    for slot in entries.present_slots(array):
-        raw = entries.entry_at(array, slot)
-        found[slot] = struct.unpack("<QQ", raw[32:48])
-    return found
+    return {slot: entries.entry_at(array, slot) for slot in entries.present_slots(array)}
+
+
+def used_blocks(image, b):
+    """The used slots in the front array with their first and last blocks, as the bytes have them."""
+    return {slot: struct.unpack("<QQ", raw[32:48]) for slot, raw in used_entries(image, b).items()}
+
+
+def used_guids(image, b):
+    """The used slots in the front array with their partition GUIDs."""
+    return {slot: guid_from(raw[16:32]) for slot, raw in used_entries(image, b).items()}
 
 
 def free_blocks(image, b):

@@ -16,7 +16,7 @@ import library
 import model
 import shapes
 from draws import Draw
-from fixed import GUID
+from known import GUID
 from sums import FRESH
 
 BUILT = pathlib.Path(__file__).resolve().parents[2] / "target" / "lib" / "libcard.so"
@@ -72,6 +72,13 @@ class Rounds:
             name = self.draw.pick(names)
             self.judge(steps, image, name, cases.ON_IMAGE[name](self.draw, image, b))
 
+    def ask_hurt(self, steps, image, b, hurt):
+        """The check, put and some more calls on a damaged copy of an image."""
+        hurt_image = images.made_from(image, hurt)
+        self.judge(steps + hurt, hurt_image, "card_check", (b,))
+        self.judge(steps + hurt, hurt_image, "card_put", cases.put_call(self.draw, hurt_image, b))
+        self.ask(steps + hurt, hurt_image, b, 6)
+
     def ask_loose(self, b, how_many):
         """Some calls that take no image."""
         names = list(cases.LOOSE)
@@ -120,9 +127,12 @@ class Rounds:
         blocks = list(range(first, first + 128))
         draw.random.shuffle(blocks)
         for slot, block in enumerate(blocks, 1):
-            record = draw.record()._replace(part_type_guid=GUID, first_lba=block, last_lba=block)
+            record = draw.record()._replace(part_type_guid=GUID, part_guid=draw.any_guid())
+            record = record._replace(first_lba=block, last_lba=block)
             image = self.change(steps, image, "card_put", (b, slot, record))
         self.ask(steps, image, b, 40)
+        for _ in range(6):
+            self.ask_hurt(steps, image, b, damage.twin_guid(draw, image, b))
 
     def round(self):
         """One image with its history, calls on it, and calls on damaged copies of it."""
@@ -134,10 +144,7 @@ class Rounds:
             image = self.history(steps, image, b)
         self.ask(steps, image, b, 14)
         for _ in range(8):
-            hurt = damage.damage(draw, image, b)
-            hurt_image = images.made_from(image, hurt)
-            self.judge(steps + hurt, hurt_image, "card_check", (b,))
-            self.ask(steps + hurt, hurt_image, b, 6)
+            self.ask_hurt(steps, image, b, damage.damage(draw, image, b))
         self.ask_loose(b, 30)
         self.ask_cut()
 

@@ -18,7 +18,7 @@ GUID_LAYOUT = struct.Struct("<IHH8s")
 
 
 class Refused(Exception):
-    """A refusal: its number, which of several tests with that number gave it, and the slot that comes with 22."""
+    """A refusal: its number, which of several tests with that number gave it, and the slot that 22 and 25 name."""
 
     def __init__(self, number, step="", values=None):
         super().__init__(number)

@@ -31,7 +31,8 @@ LARGE = 16 << 20
 
 
 def record(first, last, name="map", **more):
-    return card.Record(type=more.pop("type", card.BASIC_DATA), guid=uuid.UUID(int=1), first=first, last=last, name=name, **more)
+    """A record with these blocks, and with a GUID by the first of them."""
+    return card.Record(type=more.pop("type", card.BASIC_DATA), guid=more.pop("guid", uuid.UUID(int=first)), first=first, last=last, name=name, **more)
 
 
 def laid(blocks=100, size=512):
@@ -276,6 +277,8 @@ class Refusals(unittest.TestCase):
         self.refused(20, 0, image, lambda image: card.put(image, 512, 1, record(35, 34)))
         self.refused(21, 0, image, lambda image: card.put(image, 512, 1, record(33, 34)))
         self.refused(22, 3, image, lambda image: card.put(image, 512, 1, record(41, 50)))
+        self.refused(22, 3, image, lambda image: card.put(image, 512, 1, record(41, 50, guid=uuid.UUID(int=40))))
+        self.refused(25, 3, image, lambda image: card.put(image, 512, 1, record(50, 50, guid=uuid.UUID(int=40))))
         self.refused(18, 0, image, lambda image: card.clear(image, 512, 0))
         self.refused(23, 0, image, lambda image: card.write_payload(image, 512, 1, 0, b"x"))
         self.refused(24, 0, image, lambda image: card.write_payload(image, 512, 3, 1021, b"ridge"))

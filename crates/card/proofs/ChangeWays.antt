@@ -1,5 +1,5 @@
 -- The ways out of put's and clear's tests, one law for each: what the tests told, and what the definitions then give. No contract cites this file. Assumes nothing.
-use mathlib.Core.Path.{_≡_, refl, sym, ap, _∙_, subst}
+use mathlib.Core.Path.{_≡_, refl, sym, ap, ap₂, _∙_, subst}
 use mathlib.Core.Bool.{Bool, true, false, not, _&&_, _||_}
 use mathlib.Core.List.{List}
 use Prim.Native.Nat.{ℕ, zero, suc, _+_, _*_, _-_, _≤_, _<_}
@@ -8,19 +8,19 @@ use borrow.Author.Tests.{lt-ltb, le-ltb, ne-eqb, not-false}
 use lib.Dec.{eqb, ltb}
 use lib.ListN.{length}
 use Rattle.units.specs.declared.why.Why.{Why}
-use Rattle.units.specs.declared.Refusal.the-variants.{BadSlot, NilType, BadRange, OutsideUsable, Overlap}
-use Rattle.units.specs.Answer.{accepted, plain, ofSlot, fine, when, pick, settle, Outcome, gives, Ends, ends, Answer}
+use Rattle.units.specs.declared.Refusal.the-variants.{BadSlot, NilType, BadRange, OutsideUsable, Overlap, TwinGuid}
+use Rattle.units.specs.Answer.{accepted, plain, ofSlot, fine, when, orElse, pick, settle, Outcome, gives, Ends, ends, Answer}
 use Rattle.units.specs.Meanings.{verdictMeans, verdictOf}
 use Rattle.units.proofs.Chains.{here, on, found, past, else-first, else-second, none-when, Named, named-is, named-when, named-else, verdict-judged, settle-accepted, settle-refused, judged-some}
 use Rattle.partition.specs.Format.{firstAt, lastAt, nilTypeAt}
 use Rattle.tables.specs.Checks.{lowest}
 use Rattle.tables.specs.Places.{firstUsable, lastUsable}
 use Rattle.tables.specs.Lens.{Tables}
-use Rattle.tables.specs.Entries.{entry, used, firstOf, lastOf, overlaps}
+use Rattle.tables.specs.Entries.{entry, used, firstOf, lastOf, partGuidOf, overlaps, firstTwin}
 use Rattle.tables.specs.Check.{check, badSlot}
-use Rattle.tables.proofs.Orders.{split, by-test, below-lowest, at-lowest, lowest-none}
+use Rattle.tables.proofs.Orders.{split, lowest-is, lowest-none}
 use Rattle.checking.proofs.CheckWays.{named-check}
-use Rattle.card.specs.Calls.{recordCheck, firstOverlap, overlapCheck, entryCheck, putCheck}
+use Rattle.card.specs.Calls.{recordCheck, firstOverlap, overlapCheck, twinCheck, entryCheck, putCheck}
 
 -- ---- the record: 18, 19, 20, 21
 
@@ -60,21 +60,8 @@ record-good B n s e h =
 
 -- ---- 22
 
--- the lowest place that passes
-pub lowest-is : (n : ℕ) (f : ℕ → Bool) (j : ℕ) → j < n → ((i : ℕ) → i < j → f i ≡ false) → f j ≡ true → j ≡ lowest n f
-lowest-is n f j h low q =
-    split j (lowest n f)
-    (λ a. split (lowest n f) j (λ b. omega arith) (λ b. absurd (unlike (sym (below-lowest n f j b) ∙ q))))
-    (λ a. absurd (unlike (sym (low (lowest n f) a) ∙ at-lowest n f (omega arith))))
-  where
-    unlike : false ≡ true → ⊥
-    unlike q = let o : _≡_ {A = ℕ} 0 1 = cc in omega arith
-
--- the loop over the entries: m is whether entry j overlaps e, as the code finds it
+-- the loop over the entries
 module _ (arr : List ℕ) (k : ℕ) (e : List ℕ) where
-  pub overlap-is : (j : ℕ) {m : Bool} → m ≡ overlaps e (entry arr j) → not (eqb j k) && m ≡ pick (eqb j k) false (overlaps e (entry arr j))
-  overlap-is j q = by-test (eqb j k) (λ t. rw t) (λ t. rw t q)
-
   pub overlap-more : (j : ℕ) → ((i : ℕ) → i < j → pick (eqb i k) false (overlaps e (entry arr i)) ≡ false) → pick (eqb j k) false (overlaps e (entry arr j)) ≡ false
       → (i : ℕ) → i < j + 1 → pick (eqb i k) false (overlaps e (entry arr i)) ≡ false
   overlap-more j low q i h = split j i (λ a. let d : j ≡ i = omega arith in subst (λ (x : ℕ). pick (eqb x k) false (overlaps e (entry arr x)) ≡ false) d q) (λ a. low i a)
@@ -88,20 +75,20 @@ module _ (arr : List ℕ) (k : ℕ) (e : List ℕ) where
   unfolding firstOverlap
   overlap-none j h low = sym (lowest-none 128 (λ (i : ℕ). pick (eqb i k) false (overlaps e (entry arr i))) (λ i q. low i (omega arith)))
 
+-- ---- 25
+
+-- by the array, the place and the GUID that the code has
+pub twin-by : {x y : List ℕ} {i k : ℕ} {g h : List ℕ} → x ≡ y → i ≡ k → g ≡ h → firstTwin x i g ≡ firstTwin y k h
+twin-by {y = y} {i} {g = g} p q r = ap (λ (l : List ℕ). firstTwin l i g) p ∙ ap₂ (λ (j : ℕ) (l : List ℕ). firstTwin y j l) q r
+
 -- ---- put's tests in their order
 
 module _ (B n : ℕ) (arr : List ℕ) (s : ℕ) (e : List ℕ) {w : Why} (g : w ≡ recordCheck B n s e) where
   pub entry-wrong : (w .number ≡ 0 → ⊥) → w ≡ entryCheck B n arr s e
   entry-wrong d = found _ g d
 
-  module _ (z : w .number ≡ 0) {j : ℕ} (m : j ≡ firstOverlap arr (s - 1) e) where
-    pub entry-overlap : j < 128 → ofSlot 22 (j + 1) ≡ entryCheck B n arr s e
-    unfolding overlapCheck
-    entry-overlap l = past g z (rw (← m, lt-ltb _ _ l))
-
-    pub entry-free : 128 ≤ j → fine ≡ entryCheck B n arr s e
-    unfolding overlapCheck
-    entry-free l = past g z (rw (← m, le-ltb _ _ l))
+  pub entry-slots : {o t r : Why} → w .number ≡ 0 → o ≡ overlapCheck arr (s - 1) e → t ≡ twinCheck arr (s - 1) e → r ≡ orElse o t → r ≡ entryCheck B n arr s e
+  entry-slots z a b q = past g z (q ∙ ap₂ orElse a b)
 
 module _ (B n : ℕ) (t : Tables) (s : ℕ) (e : List ℕ) {f : Why} (g : f ≡ check B n t) where
   pub put-checked : (f .number ≡ 0 → ⊥) → f ≡ putCheck B n t s e
@@ -126,11 +113,14 @@ named-record B n s e =
     (named-else (when (ltb (lastOf e) (firstOf e)) (plain 20)) _ (named-when (ltb (lastOf e) (firstOf e)) _ (named-is BadRange)) (named-when out _ (named-is OutsideUsable))))
 
 pub named-put : (B n : ℕ) (t : Tables) (s : ℕ) (e : List ℕ) → Named (putCheck B n t s e)
-unfolding putCheck overlapCheck
+unfolding putCheck overlapCheck twinCheck
 named-put B n t s e =
     let j : ℕ = firstOverlap (t .front .array) (s - 1) e in
+    let k : ℕ = firstTwin (t .front .array) (s - 1) (partGuidOf e) in
     named-else (check B n t) _ (named-check B n t)
-    (named-else (recordCheck B n s e) _ (named-record B n s e) (named-when (ltb j 128) _ (named-is (Overlap (record { 0 = j + 1 })))))
+    (named-else (recordCheck B n s e) _ (named-record B n s e)
+    (named-else (when (ltb j 128) (ofSlot 22 (j + 1))) _ (named-when (ltb j 128) _ (named-is (Overlap (record { 0 = j + 1 }))))
+    (named-when (ltb k 128) _ (named-is (TwinGuid (record { 0 = k + 1 }))))))
 
 -- ---- the ends of put and clear
 

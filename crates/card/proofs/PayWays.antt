@@ -24,9 +24,9 @@ use Rattle.tables.specs.Lens.{Front, copyIn, Tables, tables}
 use Rattle.tables.specs.Entries.{entry, used, firstOf, lastOf}
 use Rattle.tables.specs.Check.{badSlot, slotCheck}
 use Rattle.tables.proofs.Room.{Room}
-use Rattle.tables.proofs.EntryLaws.{Inside, ok-used}
+use Rattle.tables.proofs.EntryLaws.{Inside, ok-used, own-used}
 use Rattle.tables.proofs.Good.{room-ok, slot-ok, check-good}
-use Rattle.checking.proofs.CheckWays.{own-used, own-first, own-last, slot-good, named-slot}
+use Rattle.checking.proofs.CheckWays.{own-first, own-last, slot-good, named-slot}
 use Rattle.card.specs.Calls.{slotEntry, usedCheck, partitionBytes, payloadCheck, payloadPlace, payloadAt}
 
 -- ---- what is read of a slot in the front table's bytes

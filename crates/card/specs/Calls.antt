@@ -1,5 +1,5 @@
 -- What the card calls answer, and the image that they leave. What a call refuses by is a function of the image's length, the block size and the two tables.
--- From document 01, "The card calls": lay, put, clear, payload write. Assumes nothing.
+-- From document 01, "The card calls": lay, put, clear, payload write; 25 from document 02, 3/13. Assumes nothing.
 use mathlib.Core.Bool.{false, not, _||_}
 use mathlib.Core.List.{List}
 use Prim.Native.Nat.{ℕ, _+_, _*_, _-_}
@@ -17,7 +17,7 @@ use Rattle.mbr.specs.Format.{mbrBytes, fresh}
 use Rattle.tables.specs.Checks.{lowest}
 use Rattle.tables.specs.Places.{blocks, firstUsable, lastUsable}
 use Rattle.tables.specs.Lens.{Side, Front, Copy, Tables, copyIn, copyBytes, tables, tablesAt, withTablesAt}
-use Rattle.tables.specs.Entries.{zeros, entry, setEntry, used, firstOf, lastOf, overlaps}
+use Rattle.tables.specs.Entries.{zeros, entry, setEntry, used, firstOf, lastOf, partGuidOf, overlaps, firstTwin}
 use Rattle.tables.specs.Headers.{cardOf, headBlock}
 use Rattle.tables.specs.Check.{roomCheck, guidOf, check, slotCheck, badSlot}
 
@@ -49,9 +49,13 @@ recordCheck B n s e =
 unfoldable pub overlapCheck : List ℕ → ℕ → List ℕ → Why
 overlapCheck arr k e = when (ltb (firstOverlap arr k e) 128) (ofSlot 22 (firstOverlap arr k e + 1))
 
--- put's tests of a record and of the other slots of an array
+-- 25 a twin, with the lowest other slot that has the partition GUID
+unfoldable pub twinCheck : List ℕ → ℕ → List ℕ → Why
+twinCheck arr k e = when (ltb (firstTwin arr k (partGuidOf e)) 128) (ofSlot 25 (firstTwin arr k (partGuidOf e) + 1))
+
+-- put's tests of a record and of the other slots of an array: 22 over all of them, and then 25
 abbrev pub entryCheck : ℕ → ℕ → List ℕ → ℕ → List ℕ → Why
-entryCheck B n arr s e = orElse (recordCheck B n s e) (overlapCheck arr (s - 1) e)
+entryCheck B n arr s e = orElse (recordCheck B n s e) (orElse (overlapCheck arr (s - 1) e) (twinCheck arr (s - 1) e))
 
 -- both after the check
 unfoldable pub putCheck : ℕ → ℕ → Tables → ℕ → List ℕ → Why

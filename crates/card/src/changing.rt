@@ -10,9 +10,11 @@ ghost use mathlib.Core.Path.{_≡_};
 ghost use mathlib.Core.Bool.{true, false};
 ghost use mathlib.Core.List.{List};
 ghost use Prim.Native.Nat.{ℕ, _+_, _*_, _-_, _≤_};
+ghost use lib.Dec.{ltb};
 ghost use lib.ListN.{length};
 ghost use lib.Seq.{sets};
 ghost use Rattle.units.proofs.Chains.{found};
+ghost use Rattle.units.specs.Answer.{ofSlot, when, orElse};
 ghost use Rattle.units.specs.Bytes.{part};
 ghost use Rattle.units.specs.Guids.{guidBytes};
 ghost use Rattle.crc32.specs.Crc.{crc};
@@ -20,7 +22,7 @@ ghost use Rattle.crc32.specs.Rows.{Rows};
 ghost use Rattle.tables.specs.Lens.{Front, sideOf, copyIn, tables, withTables};
 ghost use Rattle.tables.specs.Entries.{setEntry, used, firstOf, lastOf};
 ghost use Rattle.tables.specs.Check.{roomCheck, tableCheck, guidOf, check, badSlot};
-ghost use Rattle.card.specs.Calls.{recordCheck, firstOverlap, entryCheck, putCheck, changedBytes, changed};
+ghost use Rattle.card.specs.Calls.{recordCheck, firstOverlap, overlapCheck, twinCheck, entryCheck, putCheck, changedBytes, changed};
 
 // 18 no such slot, 19 nil type, 20 last before first, 21 outside the usable blocks.
 fn record_check(e: &[u8], slot: Slot, len: usize, b: u64) -> Why
@@ -63,7 +65,58 @@ fn first_overlap(copy: &[u8], at: BytePlace, k: u32, first: Lba, last: Lba) -> u
     128
 }
 
-// What put tests after the check: the record, and 22 with the lowest other slot of the front table that shares a block.
+// A refusal by a number with the slot at array place j, or none where j is past the last place.
+fn of_slot(number: u32, j: u32) -> Why
+    ensures { λ r. ⌜ r ≡ when (ltb j 128) (ofSlot number (j + 1)) ⌝ }
+{
+    if j < 128 {
+        return Why {
+            number,
+            slot: units::inner::slot_at(j),
+            place: 0,
+        };
+    }
+    why::FINE
+}
+
+// 22 with the lowest other slot of the front table that shares a block with a used entry.
+fn overlap_check<'a>(front: &'a [u8], b: u64, slot: Slot, e: &'a [u8]) -> Why
+    requires { ⌜ (b ≤ 4096) × (length (now front) ≡ b + 16384) × (length (now e) ≡ 128) × (used (now e) ≡ true) ⌝ }
+    ensures { λ r. ⌜ r ≡ overlapCheck (copyIn b Front (now (front .entry)) .array) (slot .0 - 1) (now (e .entry)) ⌝ }
+{
+    let first = partition::inner::first_at(e, BytePlace(0));
+    let last = partition::inner::last_at(e, BytePlace(0));
+    let array = tables::inner::array_in(b, false);
+    let k = units::inner::array_place(slot);
+    of_slot(22, first_overlap(front, array, k, first, last))
+}
+
+// 25 with the lowest other used slot of the front table that has an entry's partition GUID.
+fn twin_check<'a>(front: &'a [u8], b: u64, slot: Slot, e: &'a [u8]) -> Why
+    requires { ⌜ (b ≤ 4096) × (length (now front) ≡ b + 16384) × (length (now e) ≡ 128) ⌝ }
+    ensures { λ r. ⌜ r ≡ twinCheck (copyIn b Front (now (front .entry)) .array) (slot .0 - 1) (now (e .entry)) ⌝ }
+{
+    let array = tables::inner::array_in(b, false);
+    let k = units::inner::array_place(slot);
+    let guid = partition::inner::guid_place(BytePlace(0));
+    let from = guid.0;
+    of_slot(
+        25,
+        twins::inner::first_twin(front, array, k, &e[from..from + 16]),
+    )
+}
+
+// The first of two refusals, and where it is none the second.
+fn or_else(one: Why, two: Why) -> Why
+    ensures { λ r. ⌜ r ≡ orElse one two ⌝ }
+{
+    if one.number != 0 {
+        return one;
+    }
+    two
+}
+
+// What put tests after the check: the record, then 22 over all slots, then 25.
 pub fn entry_check<'a>(front: &'a [u8], len: usize, b: u64, slot: Slot, e: &'a [u8]) -> Why
     requires { ⌜ (roomCheck b len .number ≡ 0) × (length (now front) ≡ b + 16384) × (length (now e) ≡ 128) ⌝ }
     ensures { λ r. ⌜ r ≡ entryCheck b len (copyIn b Front (now (front .entry)) .array) (slot .0) (now (e .entry)) ⌝ }
@@ -72,19 +125,9 @@ pub fn entry_check<'a>(front: &'a [u8], len: usize, b: u64, slot: Slot, e: &'a [
     if wrong.number != 0 {
         return wrong;
     }
-    let first = partition::inner::first_at(e, BytePlace(0));
-    let last = partition::inner::last_at(e, BytePlace(0));
-    let array = tables::inner::array_in(b, false);
-    let k = units::inner::array_place(slot);
-    let j = first_overlap(front, array, k, first, last);
-    if j < 128 {
-        return Why {
-            number: 22,
-            slot: units::inner::slot_at(j),
-            place: 0,
-        };
-    }
-    why::FINE
+    let overlap = overlap_check(front, b, slot, e);
+    let twin = twin_check(front, b, slot, e);
+    or_else(overlap, twin)
 }
 
 // All that put tests, of an image.

@@ -35,7 +35,7 @@ pub fn lay(img: &mut [u8], b: u64, guid: Guid) -> Verdict
 }
 
 // Puts a record into a slot of both tables, the GUID kept: after the check 18 no such slot, 19 nil type, 20 last before first, 21 outside the usable blocks,
-// 22 with the lowest other slot that shares a block.
+// 22 with the lowest other slot that shares a block, 25 with the lowest other slot that has the partition GUID.
 pub fn put(img: &mut [u8], b: u64, slot: Slot, p: Partition) -> Verdict
     ensures { λ r. ⌜ Ends (putOutcome b (now (img .entry)) (slot .0) p) (verdictMeans r) (now (img .exit)) ⌝ }
 {

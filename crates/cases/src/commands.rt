@@ -10,7 +10,7 @@ use units::Guid;
 use units::Tail;
 use units::Verdict;
 
-// The GUIDs here differ in their last byte alone: 0 is the disk's, 1 every partition's.
+// The GUIDs here differ in their last byte alone: 0 is the disk's, and a partition has its slot's number there.
 fn some_guid(last: u8) -> Guid {
     Guid {
         time_low: 0x5A3F_1C20,
@@ -34,7 +34,7 @@ fn basic_data() -> Guid {
 fn record(part_type_guid: Guid, line: &[u8]) -> Partition {
     Partition {
         part_type_guid,
-        part_guid: some_guid(1),
+        part_guid: some_guid(script::byte(line, 0)),
         first_lba: script::block(line, 1),
         last_lba: script::block(line, 2),
         flags: script::number(line, 3),
@@ -46,11 +46,33 @@ fn put(img: &mut [u8], b: u64, part_type: Guid, line: &[u8]) -> Verdict {
     card::put(img, b, script::slot(line, 0), record(part_type, line))
 }
 
-// A call that accepts or refuses: lay, a put of a record whose type is nil, clear, and else a put.
+// The GUID with a last byte, or the nil GUID for 0.
+fn given_guid(last: u8) -> Guid {
+    if last == 0 {
+        return Guid::nil();
+    }
+    some_guid(last)
+}
+
+// A put of a record with another slot's GUID, or the nil one: the GUID's last byte, slot, first and last block.
+fn put_bearing(img: &mut [u8], b: u64, line: &[u8]) -> Verdict {
+    let p = Partition {
+        part_type_guid: basic_data(),
+        part_guid: given_guid(script::byte(line, 0)),
+        first_lba: script::block(line, 2),
+        last_lba: script::block(line, 3),
+        flags: 0,
+        name: [0; 36],
+    };
+    card::put(img, b, script::slot(line, 1), p)
+}
+
+// A call that accepts or refuses: lay, a put of a record whose type is nil, one with a given GUID, clear, and else a put.
 fn change(img: &mut [u8], b: u64, line: &[u8]) -> Verdict {
     match script::command(line) {
         b'l' => card::lay(img, b, some_guid(0)),
         b'n' => put(img, b, Guid::nil(), line),
+        b'b' => put_bearing(img, b, line),
         b'c' => card::clear(img, b, script::slot(line, 0)),
         _ => put(img, b, basic_data(), line),
     }

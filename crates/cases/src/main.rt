@@ -1,5 +1,5 @@
 // Runs the card calls on an image in memory, as the script on standard input says, and prints what each answers.
-// The file `stdout` beside the folder `src` was written from document 01; its check sums of whole images come from tests/example/make_card.py.
+// The file `stdout` beside the folder `src` was written from documents 01 and 02; its check sums of whole images come from tests/example/make_card.py.
 mod bytes; // bytes.rt: bytes of an image, changed and looked at
 mod commands; // commands.rt: the commands that print a line
 mod every; // every.rt: one of them, of all calls
@@ -31,7 +31,7 @@ fn look(img: &[u8], b: u64, line: &[u8]) {
 fn show(img: &mut [u8], b: u64, line: &[u8]) {
     say::start(b, line);
     match script::command(line) {
-        b'l' | b'p' | b'n' | b'c' => commands::judge(img, b, line),
+        b'l' | b'p' | b'n' | b'b' | b'c' => commands::judge(img, b, line),
         b'w' => commands::write(img, b, line),
         b'e' => every::call(img, b),
         _ => look(img, b, line),

@@ -55,8 +55,9 @@ pub fn unchanged(is: bool) {
 // A refusal's number, and the slot that it carries.
 pub fn refused(w: Refusal) {
     number(b": refused ", w.number() as u64);
-    if let Refusal::Overlap(slot) = w {
-        number(b", slot ", slot.0 as u64);
+    match w {
+        Refusal::Overlap(slot) | Refusal::TwinGuid(slot) => number(b", slot ", slot.0 as u64),
+        _ => {}
     }
 }
 

@@ -1,10 +1,10 @@
 -- The ways of the card check's code: what each of its answers has found is what the definition says there. No contract cites this file. Assumes nothing.
-use mathlib.Core.Path.{_≡_, refl, sym, ap, _∙_, subst}
+use mathlib.Core.Path.{_≡_, refl, sym, ap, _∙_}
 use mathlib.Core.Bool.{Bool, true, false, not, _&&_}
 use mathlib.Core.List.{List}
 use Prim.Native.Nat.{ℕ, _+_, _*_, _-_, _≤_, _<_}
 use native.Mathlib.Omega.{arith}
-use borrow.Author.Tests.{eqb-true, eqb-false, eq-eqb, ne-eqb, not-true, not-false}
+use borrow.Author.Tests.{eq-eqb, ne-eqb, not-true, not-false}
 use lib.Dec.{eqb, ltb, leb}
 use lib.ListN.{drop}
 use lib.Seq.{take-take}
@@ -14,7 +14,6 @@ use Rattle.units.specs.declared.why.Why.{Why}
 use Rattle.units.specs.declared.Refusal.the-variants.{BadBlockSize, InvalidGptSignature, InvalidCRC32Checksum, PartsCrc, ToSmallForBackup, BackupLbaToEarly, WrongLayout, Disagree, BadSlot}
 use Rattle.units.specs.Answer.{pick, orElse, fine, plain, when}
 use Rattle.units.specs.Bytes.{part, num, same, allZero}
-use Rattle.units.proofs.Lists.{part-part}
 use Rattle.units.proofs.Laws.{num-part}
 use Rattle.crc32.specs.Crc.{crc}
 use Rattle.crc32.specs.HeaderSum.{headerSum}
@@ -24,29 +23,16 @@ use Rattle.header.proofs.Laws.{sum-part}
 use Rattle.tables.specs.Checks.{all}
 use Rattle.tables.specs.Places.{firstUsable, lastUsable, arrayBlocks, blocks}
 use Rattle.tables.specs.Lens.{Tables, Side, Front, Back}
-use Rattle.tables.specs.Entries.{entry, used, firstOf, lastOf, usable, okEntry, allOk, overlaps, entriesOk}
+use Rattle.tables.specs.Entries.{entry, used, firstOf, lastOf, usable, okEntry, allOk, overlaps, allApart, allSingle, entriesOk}
 use Rattle.tables.specs.Headers.{laidFields}
 use Rattle.tables.specs.Check.{roomCheck, copyCheck, headOf, guidOf, check, tableCheck, pairCheck, slotCheck, badSlot}
-use Rattle.tables.proofs.Orders.{split, by-test, all-at, all-of}
-use Rattle.tables.proofs.EntryLaws.{overlaps-comm, zero-front}
+use Rattle.tables.proofs.Orders.{by-test, triangle}
+use Rattle.tables.proofs.EntryLaws.{entry-part, used-part, overlaps-comm, zero-front}
 use Rattle.tables.proofs.ReadCheck.{mark-part, header-part}
 
 -- ---- the parts that the code reads
 
--- entry k of the array at a place stands 128 * k bytes further on
-pub entry-part : (xs : List ℕ) (at k : ℕ) → k < 128 → entry (part xs at 16384) k ≡ part xs (at + 128 * k) 128
-unfolding entry
-entry-part xs at k h = part-part xs at 16384 (128 * k) 128 (omega arith)
-
--- by the place where it stands
-pub entry-at : (xs : List ℕ) (at k : ℕ) {p : ℕ} → k < 128 → p ≡ at + 128 * k → entry (part xs at 16384) k ≡ part xs p 128
-entry-at xs at k h e = entry-part xs at k h ∙ ap (λ (o : ℕ). part xs o 128) (sym e)
-
--- the three things that are read of an entry
-pub used-part : (xs : List ℕ) (at : ℕ) → used (part xs at 128) ≡ not (allZero (part xs at 16))
-unfolding used
-used-part xs at = ap (λ (l : List ℕ). not (allZero l)) (take-take 16 128 (drop at xs) (omega arith))
-
+-- the blocks of an entry
 pub first-part : (xs : List ℕ) (at : ℕ) → firstOf (part xs at 128) ≡ num xs (at + 32) 8
 unfolding firstOf
 first-part xs at = num-part xs at 128 32 8 (omega arith)
@@ -92,55 +78,17 @@ module _ {z : Bool} (xs : List ℕ) (at : ℕ) (e : z ≡ allZero (part xs at 16
 
 -- ---- all entries
 
--- one place that fails is enough
-pub all-fails : (n : ℕ) (f : ℕ → Bool) (k : ℕ) → k < n → f k ≡ false → all n f ≡ false
-all-fails n f k h e = by-test (all n f) (λ t. let o : _≡_ {A = Bool} true false = sym (all-at n f t k h) ∙ e in absurd (let p : _≡_ {A = ℕ} 0 1 = cc in omega arith)) (λ t. t)
-
-pub all-more : (k : ℕ) (f : ℕ → Bool) → all k f ≡ true → f k ≡ true → all (k + 1) f ≡ true
-all-more k f h e = all-of (k + 1) f (λ j l. by-test (eqb j k) (λ q. ap f (eqb-true j k q) ∙ e) (λ q. let d = eqb-false j k q in all-at k f h j (omega arith)))
-
-pub all-end : (k n : ℕ) (f : ℕ → Bool) → k ≤ n → n ≤ k → all k f ≡ true → true ≡ all n f
-all-end k n f p q h = let e : k ≡ n = omega arith in sym (subst (λ (i : ℕ). all i f ≡ true) e h)
-
-pub all-start : (f : ℕ → Bool) → all 0 f ≡ true
-unfolding all
-all-start f = refl
-
--- two tests that follow from each other are one
-pub both-ways : (s t : Bool) → (s ≡ true → t ≡ true) → (t ≡ true → s ≡ true) → s ≡ t
-both-ways true t f g = sym (f refl)
-both-ways false true f g = g refl
-both-ways false false f g = refl
-
--- the square of all pairs and the triangle of those with the second below the first: what is compared does not tell its two sides apart
-pub triangle : (n : ℕ) (f : ℕ → ℕ → Bool) → ((j k : ℕ) → f j k ≡ f k j)
-    → all n (λ (k : ℕ). all k (λ (j : ℕ). not (f k j))) ≡ all n (λ (j : ℕ). all n (λ (k : ℕ). pick (eqb j k) true (not (f j k))))
-triangle n f comm =
-    both-ways _ _
-    (λ t. all-of n _ (λ j p. all-of n _ (λ k q. by-test (eqb j k) (λ e. rw e)
-    (λ e. let d = eqb-false j k e in
-    rw e (split j k
-    (λ o. ap not (comm j k) ∙ all-at k (λ (j : ℕ). not (f k j)) (all-at n (λ (k : ℕ). all k (λ (j : ℕ). not (f k j))) t k q) j (omega arith))
-    (λ o. all-at j (λ (k : ℕ). not (f j k)) (all-at n (λ (k : ℕ). all k (λ (j : ℕ). not (f k j))) t j p) k o))))))
-    (λ t. all-of n _ (λ k q. all-of k _ (λ j o.
-    subst (λ (b : Bool). pick b true (not (f k j)) ≡ true) (ne-eqb k j (λ e. omega arith))
-    (all-at n (λ (i : ℕ). pick (eqb k i) true (not (f k i))) (all-at n (λ (j : ℕ). all n (λ (k : ℕ). pick (eqb j k) true (not (f j k)))) t k q) j (omega arith)))))
-
 -- an unused entry shares no block
 pub overlaps-unused : (d e : List ℕ) → used d ≡ false → overlaps d e ≡ false
 unfolding overlaps
 overlaps-unused d e u = rw u
 
--- so it is with entries that share a block
-pub square : (arr : List ℕ) → all 128 (λ (k : ℕ). all k (λ (j : ℕ). not (overlaps (entry arr k) (entry arr j))))
-    ≡ all 128 (λ (j : ℕ). all 128 (λ (k : ℕ). pick (eqb j k) true (not (overlaps (entry arr j) (entry arr k)))))
+-- it is enough to look below each entry
+pub square : (arr : List ℕ) → all 128 (λ (k : ℕ). all k (λ (j : ℕ). not (overlaps (entry arr k) (entry arr j)))) ≡ allApart arr
 square arr = triangle 128 (λ (j k : ℕ). overlaps (entry arr j) (entry arr k)) (λ j k. overlaps-comm (entry arr j) (entry arr k))
 
 -- what is read of entry k, which is then compared with others
 module _ (xs : List ℕ) (at k : ℕ) (h : k < 128) where
-  pub own-used : {z : Bool} → z ≡ allZero (part xs (at + 128 * k) 16) → used (entry (part xs at 16384) k) ≡ not z
-  own-used e = ap used (entry-part xs at k h) ∙ used-part xs (at + 128 * k) ∙ ap not (sym e)
-
   pub own-first : {f : ℕ} → f ≡ num xs (at + 128 * k + 32) 8 → f ≡ firstOf (entry (part xs at 16384) k)
   own-first e = e ∙ sym (ap firstOf (entry-part xs at k h) ∙ first-part xs (at + 128 * k))
 
@@ -199,10 +147,14 @@ module _ (B n : ℕ) (arr : List ℕ) {a : Bool} (e : a ≡ allOk B n arr) where
   unfolding entriesOk
   entries-bad t = rw (← e, not-true a t)
 
-  pub entries-apart : {d : Bool} → not a ≡ false → d ≡ all 128 (λ (j : ℕ). all 128 (λ (k : ℕ). pick (eqb j k) true (not (overlaps (entry arr j) (entry arr k)))))
-      → d ≡ entriesOk B n arr
-  unfolding entriesOk
-  entries-apart t f = f ∙ rw (← e, not-false a t)
+  module _ (t : not a ≡ false) {d : Bool} (f : d ≡ allApart arr) where
+    pub entries-meet : not d ≡ true → false ≡ entriesOk B n arr
+    unfolding entriesOk
+    entries-meet u = rw (← e, not-false a t, ← f, not-true d u)
+
+    pub entries-single : {s : Bool} → not d ≡ false → s ≡ allSingle arr → s ≡ entriesOk B n arr
+    unfolding entriesOk
+    entries-single u g = g ∙ rw (← e, not-false a t, ← f, not-false d u)
 
 module _ (B n : ℕ) (g h x y : List ℕ) {q agree : Bool} (e : q ≡ same g h) (f : agree ≡ same x y) where
   pub pair-differ : not (q && agree) ≡ true → plain 17 ≡ pairCheck B n g h x y

@@ -11,8 +11,9 @@ use Rattle.units.specs.Bytes.{part, num, allZero}
 use Rattle.tables.specs.Checks.{all}
 use Rattle.tables.specs.Entries.{entry, used, firstOf, lastOf, overlaps}
 use Rattle.tables.proofs.Orders.{split, by-test, all-of}
+use Rattle.tables.proofs.EntryLaws.{used-part}
 use Rattle.checking.specs.Order.{startsAfter, greatestLast, Below}
-use Rattle.checking.proofs.CheckWays.{used-part, first-part, last-part}
+use Rattle.checking.proofs.CheckWays.{first-part, last-part}
 
 -- ---- what the code reads
 

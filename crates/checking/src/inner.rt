@@ -1,5 +1,5 @@
 // The card check over two copies: 1 bad block size, 8 below three blocks, 10 no room; of each table 4 signature, 5 header sum, 16 layout, 6 array sum; 17 the tables
-// differ; 16 an entry is wrong. The public call comes last; each `requires` before it is what a caller has tested.
+// differ; 16 an entry is wrong, or two used ones have one partition GUID. The public call comes last; each `requires` before it is what a caller has tested.
 // `copy` is one table's own b + 16,384 bytes, as in `tables::inner`; `len` is the card's length in bytes.
 use header::Header;
 use units::BytePlace;
@@ -222,7 +222,7 @@ fn all_apart(img: &[u8], at: BytePlace) -> bool
     true
 }
 
-// What 16 (wrong layout) tests of a copy's array.
+// What 16 (wrong layout) tests of a copy's array: each entry, that no two share a block, and that no two used ones have one partition GUID.
 pub fn entries_ok(copy: &[u8], len: usize, b: u64, back: bool) -> bool
     requires { ⌜ (roomCheck b len .number ≡ 0) × (length (now copy) ≡ b + 16384) ⌝ }
     ensures { λ r. ⌜ r ≡ entriesOk b len (copyIn b (sideOf back) (now (copy .entry)) .array) ⌝ }
@@ -233,10 +233,13 @@ pub fn entries_ok(copy: &[u8], len: usize, b: u64, back: bool) -> bool
     if !each_ok(copy, at, first, last) {
         return false;
     }
-    all_apart(copy, at)
+    if !all_apart(copy, at) {
+        return false;
+    }
+    twins::inner::all_single(copy, at)
 }
 
-// 17 the tables differ, in their GUIDs or their arrays; 16 an entry of the front array is wrong.
+// 17 the tables differ, in their GUIDs or their arrays; 16 the entries of the front array are wrong.
 fn pair_check<'a>(front: &'a [u8], back: &'a [u8], agree: bool, len: usize, b: u64) -> Why
     requires { ⌜ (roomCheck b len .number ≡ 0) × (length (now front) ≡ b + 16384) × (length (now back) ≡ b + 16384) ⌝ }
     requires { ⌜ agree ≡ same (copyIn b Front (now front) .array) (copyIn b Back (now back) .array) ⌝ }

@@ -5,23 +5,22 @@ use mathlib.Core.Bool.{Bool, true, false, not, _||_}
 use mathlib.Core.List.{List}
 use Prim.Native.Nat.{ℕ, _+_, _-_, _^_, _≤_, _<_}
 use native.Mathlib.Omega.{arith}
-use borrow.Author.Tests.{not-false, ltb-false, le-ltb, ne-eqb, eqb-false}
-use lib.Dec.{eqb, ltb}
+use borrow.Author.Tests.{not-false, ltb-false, le-ltb}
+use lib.Dec.{ltb}
 use lib.ListN.{length, getD, List·getD-eq-default}
 use Rattle.units.specs.declared.Guid.{Guid}
 use Rattle.units.specs.Guids.{guidBytes}
 use Rattle.units.specs.Held.{Small, GuidHeld}
 use Rattle.units.proofs.Chains.{else-none, else-first, else-second, when-none, none-when}
-use Rattle.units.specs.Answer.{pick, when, plain, ofSlot}
+use Rattle.units.specs.Answer.{when, plain, ofSlot}
 use Rattle.tables.proofs.Good.{check-good, accepted-array, slot-ok}
-use Rattle.tables.specs.Checks.{lowest}
 use Rattle.tables.specs.Places.{firstUsable, lastUsable}
 use Rattle.tables.specs.Lens.{Tables, tablesAt, withTablesAt}
-use Rattle.tables.specs.Entries.{zeros, entry, setEntry, used, firstOf, lastOf, overlaps}
+use Rattle.tables.specs.Entries.{zeros, entry, setEntry, used, firstOf, lastOf, partGuidOf, overlaps, bears, firstTwin}
 use Rattle.tables.specs.Check.{guidOf, check, badSlot, slotCheck}
-use Rattle.card.specs.Calls.{firstOverlap, changed, putCheck, putAt, clearAt, recordCheck, overlapCheck}
-use Rattle.tables.proofs.Orders.{split, by-pick, or-left, or-right, neither, below-lowest, lowest-none}
-use Rattle.tables.proofs.EntryLaws.{length-zeros, getD-zeros, length-set-entry, entry-zeros, Inside, ok-of, ok-zeros, overlaps-comm, overlaps-zeros, Entries, entries-set}
+use Rattle.card.specs.Calls.{firstOverlap, changed, putCheck, putAt, clearAt, recordCheck, overlapCheck, twinCheck}
+use Rattle.tables.proofs.Orders.{split, or-left, or-right, neither, others-at, others-of}
+use Rattle.tables.proofs.EntryLaws.{length-zeros, getD-zeros, length-set-entry, entry-zeros, Inside, ok-of, ok-zeros, unused-zeros, overlaps-comm, overlaps-zeros, bears-unused, twins-unused, twins-alone, Entries, entries-set}
 use Rattle.history.proofs.State.{held-back, State, state-check, state-front, write-state, accepted-image}
 
 -- what an accepted put says
@@ -32,9 +31,10 @@ pub record Puts (B n : ℕ) (t : Tables) (s : ℕ) (e : List ℕ) : Type 0 where
   pub taken : used e ≡ true
   pub inside : Inside B n e
   pub free : (j : ℕ) → j < 128 → (j ≡ s - 1 → ⊥) → overlaps e (entry (t .front .array) j) ≡ false
+  pub alone : (j : ℕ) → j < 128 → (j ≡ s - 1 → ⊥) → bears (partGuidOf e) (entry (t .front .array) j) ≡ false
 
 pub put-ok : (B n : ℕ) (t : Tables) (s : ℕ) (e : List ℕ) → putCheck B n t s e .number ≡ 0 → Puts B n t s e
-unfolding putCheck recordCheck overlapCheck firstOverlap
+unfolding putCheck recordCheck overlapCheck twinCheck firstOverlap firstTwin
 put-ok B n t s e h =
     let h1 = else-second (check B n t) _ h in
     let r = else-first (recordCheck B n s e) _ h1 in
@@ -45,8 +45,10 @@ put-ok B n t s e h =
     let c20 : ltb (lastOf e) (firstOf e) ≡ false = none-when _ (plain 20) tt (else-first (when (ltb (lastOf e) (firstOf e)) (plain 20)) _ h3) in
     let c21 : ltb (firstOf e) (firstUsable B) || ltb (lastUsable B n) (lastOf e) ≡ false = none-when _ (plain 21) tt (else-second (when (ltb (lastOf e) (firstOf e)) (plain 20)) _ h3) in
     let j : ℕ = firstOverlap (t .front .array) (s - 1) e in
-    let c22 : ltb (firstOverlap (t .front .array) (s - 1) e) 128 ≡ false = none-when _ (ofSlot 22 (j + 1)) tt (else-second (recordCheck B n s e) _ h1) in
-    let m : 128 ≤ lowest 128 (λ (j : ℕ). pick (eqb j (s - 1)) false (overlaps e (entry (t .front .array) j))) = ltb-false _ _ c22 in
+    let k : ℕ = firstTwin (t .front .array) (s - 1) (partGuidOf e) in
+    let h4 = else-second (recordCheck B n s e) _ h1 in
+    let c22 : ltb (firstOverlap (t .front .array) (s - 1) e) 128 ≡ false = none-when _ (ofSlot 22 (j + 1)) tt (else-first (when (ltb j 128) (ofSlot 22 (j + 1))) _ h4) in
+    let c25 : ltb (firstTwin (t .front .array) (s - 1) (partGuidOf e)) 128 ≡ false = none-when _ (ofSlot 25 (k + 1)) tt (else-second (when (ltb j 128) (ofSlot 22 (j + 1))) _ h4) in
     record {
       card = else-first (check B n t) _ h;
       one = slot-ok s c18 .0;
@@ -57,26 +59,27 @@ put-ok B n t s e h =
         low = ltb-false _ _ (or-left _ _ c21);
         high = ltb-false _ _ (or-right (ltb (firstOf e) (firstUsable B)) _ c21);
       };
-      free = λ j p d.
-          subst (λ (b : Bool). pick b false (overlaps e (entry (t .front .array) j)) ≡ false) (ne-eqb j (s - 1) d)
-          (below-lowest 128 (λ (j : ℕ). pick (eqb j (s - 1)) false (overlaps e (entry (t .front .array) j))) j (omega arith));
+      free = others-at 128 (s - 1) (λ (j : ℕ). overlaps e (entry (t .front .array) j)) (ltb-false _ _ c22);
+      alone = others-at 128 (s - 1) (λ (j : ℕ). bears (partGuidOf e) (entry (t .front .array) j)) (ltb-false _ _ c25);
     }
 
--- and whatever it says makes a put accepted: 18 to 22 are given exactly when they apply
+-- and whatever it says makes a put accepted: 18 to 22 and 25 are given exactly when they apply
 pub ok-put : (B n : ℕ) (t : Tables) (s : ℕ) (e : List ℕ) → Puts B n t s e → putCheck B n t s e .number ≡ 0
-unfolding putCheck recordCheck overlapCheck firstOverlap
+unfolding putCheck recordCheck overlapCheck twinCheck firstOverlap firstTwin
 ok-put B n t s e p =
     let i = p .inside in
-    let m : lowest 128 (λ (j : ℕ). pick (eqb j (s - 1)) false (overlaps e (entry (t .front .array) j))) ≡ 128 =
-    lowest-none 128 _ (λ j q. by-pick (λ (b : Bool). b ≡ false) (eqb j (s - 1)) _ _ (λ _. refl) (λ d. p .free j q (eqb-false j (s - 1) d))) in
-    let k : ℕ = lowest 128 (λ (j : ℕ). pick (eqb j (s - 1)) false (overlaps e (entry (t .front .array) j))) in
+    let m : firstOverlap (t .front .array) (s - 1) e ≡ 128 = others-of 128 (s - 1) (λ (j : ℕ). overlaps e (entry (t .front .array) j)) (p .free) in
+    let o : firstTwin (t .front .array) (s - 1) (partGuidOf e) ≡ 128 = others-of 128 (s - 1) (λ (j : ℕ). bears (partGuidOf e) (entry (t .front .array) j)) (p .alone) in
+    let j : ℕ = firstOverlap (t .front .array) (s - 1) e in
+    let k : ℕ = firstTwin (t .front .array) (s - 1) (partGuidOf e) in
     else-none _ _ (p .card)
     (else-none _ _
     (else-none _ _ (when-none _ (plain 18) (neither (le-ltb s 1 (p .one)) (le-ltb 128 s (omega (arith, p .slot)))))
     (else-none _ _ (when-none _ (plain 19) (ap not (p .taken)))
     (else-none _ _ (when-none _ (plain 20) (le-ltb _ _ (i .order)))
     (when-none _ (plain 21) (neither (le-ltb _ _ (i .low)) (le-ltb _ _ (i .high)))))))
-    (when-none _ (ofSlot 22 (k + 1)) (le-ltb (lowest 128 (λ (j : ℕ). pick (eqb j (s - 1)) false (overlaps e (entry (t .front .array) j)))) 128 (omega arith))))
+    (else-none _ _ (when-none (ltb (firstOverlap (t .front .array) (s - 1) e) 128) (ofSlot 22 (j + 1)) (le-ltb (firstOverlap (t .front .array) (s - 1) e) 128 (omega (arith, m))))
+    (when-none (ltb (firstTwin (t .front .array) (s - 1) (partGuidOf e)) 128) (ofSlot 25 (k + 1)) (le-ltb (firstTwin (t .front .array) (s - 1) (partGuidOf e)) 128 (omega (arith, o))))))
 
 small-zeros : (n : ℕ) → Small (zeros n)
 small-zeros n i =
@@ -96,6 +99,7 @@ fresh-put B n g xs s e k l h a b u i =
       taken = u;
       inside = i;
       free = λ j q _. ap (λ (r : List ℕ). overlaps e (entry r j)) (state-front k) ∙ ap (λ (x : List ℕ). overlaps e x) (entry-zeros j q) ∙ overlaps-comm e (zeros 128) ∙ overlaps-zeros e;
+      alone = λ j q _. ap (λ (r : List ℕ). bears (partGuidOf e) (entry r j)) (state-front k) ∙ ap (λ (x : List ℕ). bears (partGuidOf e) x) (entry-zeros j q) ∙ bears-unused (partGuidOf e) (zeros 128) unused-zeros;
     })
 
 pub clear-check : (B n : ℕ) (t : Tables) (s : ℕ) → slotCheck B n t s .number ≡ 0 → check B n t .number ≡ 0
@@ -125,7 +129,7 @@ module _ (B n : ℕ) (xs : List ℕ) (l : length xs ≡ n) (s : ℕ) where
       let k = check-good B n (tablesAt B n xs) (o .card) in
       subst (λ (i : List ℕ). State B n (guidOf (tablesAt B n xs .front)) (setEntry (tablesAt B n xs .front .array) (s - 1) e) i) (sym (accepted-image tt _ xs _ h))
       (change-done e le (o .card) (o .slot)
-      (entries-set B n _ (s - 1) e (accepted-array B n xs l (o .card)) (o .slot) le (k .entries) (ok-of B n e (o .taken) (o .inside)) (o .free)))
+      (entries-set _ (s - 1) e (accepted-array B n xs l (o .card)) (o .slot) le B n (k .entries) (ok-of B n e (o .taken) (o .inside)) (o .free) (λ j p d. twins-alone e _ (o .alone j p d))))
 
   pub clear-done : slotCheck B n (tablesAt B n xs) s .number ≡ 0
       → State B n (guidOf (tablesAt B n xs .front)) (setEntry (tablesAt B n xs .front .array) (s - 1) (zeros 128)) (clearAt B n xs s .image)
@@ -136,4 +140,4 @@ module _ (B n : ℕ) (xs : List ℕ) (l : length xs ≡ n) (s : ℕ) where
       let k = check-good B n (tablesAt B n xs) c in
       subst (λ (i : List ℕ). State B n (guidOf (tablesAt B n xs .front)) (setEntry (tablesAt B n xs .front .array) (s - 1) (zeros 128)) i) (sym (accepted-image tt _ xs _ h))
       (change-done (zeros 128) (length-zeros 128) c p
-      (entries-set B n _ (s - 1) (zeros 128) (accepted-array B n xs l c) p (length-zeros 128) (k .entries) (ok-zeros B n) (λ j _ _. overlaps-zeros _)))
+      (entries-set _ (s - 1) (zeros 128) (accepted-array B n xs l c) p (length-zeros 128) B n (k .entries) (ok-zeros B n) (λ j _ _. overlaps-zeros _) (λ j _ _. twins-unused (zeros 128) _ unused-zeros)))

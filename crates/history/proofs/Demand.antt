@@ -12,22 +12,23 @@ use lib.ListN.{length}
 use Rattle.units.proofs.Chains.{judged-none}
 use Rattle.units.specs.declared.Guid.{Guid}
 use Rattle.units.specs.Answer.{accepted}
+use Rattle.units.specs.Bytes.{same}
 use Rattle.units.specs.Guids.{guidBytes}
 use Rattle.units.specs.Held.{GuidHeld}
 use Rattle.partition.specs.Array.{Found}
 use Rattle.tables.specs.Lens.{tablesAt, OutsideTables}
 use Rattle.tables.specs.Headers.{cardOf}
 use Rattle.tables.specs.Check.{check}
-use Rattle.tables.specs.Entries.{entry, used, firstOf, lastOf, overlaps}
+use Rattle.tables.specs.Entries.{entry, used, firstOf, lastOf, partGuidOf, overlaps, bears, twins}
 use Rattle.card.specs.Calls.{layOutcome}
 use Rattle.listing.specs.Listing.{countAnswer}
 use Rattle.history.specs.History.{Op, run, emptySlot, told, filledFrom, arrayOf, Within, Apart, Card, Told}
-use Rattle.tables.proofs.Orders.{split, both}
+use Rattle.tables.proofs.Orders.{split, both, same-of}
 use Rattle.tables.proofs.Room.{Room}
 use Rattle.tables.proofs.EntryLaws.{Inside, ok-used}
 use Rattle.tables.proofs.Good.{room-ok}
 use Rattle.history.proofs.State.{held-back, state-check}
-use Rattle.history.proofs.Steps.{Holds, slot-first, slot-last, array-told, small-array, steps, lay-holds}
+use Rattle.history.proofs.Steps.{Holds, slot-first, slot-last, slot-guid, array-told, small-array, steps, lay-holds}
 use Rattle.history.proofs.Readers.{reads-front, reads-back}
 use Rattle.history.proofs.Others.{demand-3-bytes}
 use Rattle.history.proofs.Listings.{lists-held, counts-held}
@@ -44,6 +45,13 @@ apart-disjoint e f u v h =
     never a b =
         let t : used e && (used f && (leb (firstOf e) (lastOf f) && leb (firstOf f) (lastOf e))) ≡ true = both u (both v (both (le-leb _ _ a) (le-leb _ _ b))) in
         let z : _≡_ {A = ℕ} 0 1 = cc in omega arith
+
+-- two used entries that are no twins have different GUIDs
+pub single-differ : (e f : List ℕ) → used e ≡ true → used f ≡ true → twins e f ≡ false → partGuidOf e ≡ partGuidOf f → ⊥
+unfolding twins bears
+single-differ e f u v h q =
+    let t : used e && (used f && same (partGuidOf f) (partGuidOf e)) ≡ true = both u (both v (same-of (sym q))) in
+    let z : _≡_ {A = ℕ} 0 1 = cc in omega arith
 
 -- ---- a card by what its slots hold
 
@@ -69,6 +77,12 @@ module _ {B : ℕ} {xs : List ℕ} {bs : List ℕ} {slots : ℕ → Found} (h : 
       from (inl q) = inl (omega (arith, slot-last h s a b, slot-first h t c d))
       from (inr q) = inr (omega (arith, slot-last h t c d, slot-first h s a b))
 
+  slots-single : (s t : ℕ) → 1 ≤ s → s ≤ 128 → 1 ≤ t → t ≤ 128 → (s ≡ t → ⊥) → slots s .present ≡ true → slots t .present ≡ true
+      → slots s .partition .«part_guid» ≡ slots t .partition .«part_guid» → ⊥
+  slots-single s t a b c d n u v q =
+      single-differ _ _ (used-is s a b u) (used-is t c d v) (h .state .entries .single (s - 1) (t - 1) (omega arith) (omega arith) (λ e. n (omega arith)))
+      (slot-guid h s a b ∙ ap guidBytes q ∙ sym (slot-guid h t c d))
+
 -- the check accepts it
 holds-check : {B n : ℕ} {xs : List ℕ} {slots : ℕ → Found} (g : Guid) → Holds B n (guidBytes g) slots xs → GuidHeld g → n < 2 ^ 64 → check B n (tablesAt B n xs) .number ≡ 0
 holds-check g h gh fits = state-check (h .state) fits (held-back g gh) (small-array h)
@@ -86,6 +100,7 @@ card-of {B} {xs} {slots} g h gh fits =
       roof = omega (arith, r .last);
       within = slot-within h;
       apart = slots-apart h;
+      single = slots-single h;
     }
 
 -- ---- demand 3

@@ -5,7 +5,7 @@ use mathlib.Core.List.{List, [], _∷_, _++_}
 use Prim.Native.Nat.{ℕ, zero, suc, _+_, _-_, _^_, _≤_, _<_}
 use native.Mathlib.Omega.{arith}
 use lib.ListN.{length, take, drop, getD, replicate, List·getD-append}
-use lib.Seq.{length-take-le, getD-take, getD-append-add}
+use lib.Seq.{take-at, length-take-le, getD-take, getD-append-add}
 use Rattle.units.specs.Bytes.{bytes}
 use Rattle.units.specs.Guids.{guidBytes}
 use Rattle.units.specs.Held.{Small, GuidHeld}
@@ -16,18 +16,22 @@ use Rattle.partition.specs.declared.Partition.{Partition}
 use Rattle.partition.specs.Format.{unitBytes, firstZero, cleared, entryBytes, named, zeroPartition}
 use Rattle.partition.specs.Held.{PartitionHeld}
 use Rattle.partition.proofs.Laws.{first-le, length-cleared, cleared-twice}
-use Rattle.tables.specs.Entries.{zeros, firstOf, lastOf}
+use Rattle.tables.specs.Entries.{zeros, firstOf, lastOf, partGuidOf}
 use Rattle.tables.proofs.Orders.{split}
 
 -- ---- the fields of a record's bytes
 
--- 20 and 21 are about its blocks
+-- 20 and 21 are about its blocks, 25 about its GUID
 module _ (p : Partition) where
+  at-16 : drop 16 (entryBytes p) ≡ guidBytes (p .«part_guid») ++ (bytes 8 (p .«first_lba» .0) ++ (bytes 8 (p .«last_lba» .0) ++ (bytes 8 (p .flags) ++ unitBytes (p .name))))
+  at-16 = drop-next (entryBytes p) 0 (guidBytes (p .«part_type_guid»)) _ 16 refl (omega (arith, length-guid (p .«part_type_guid»)))
+
   at-32 : drop 32 (entryBytes p) ≡ bytes 8 (p .«first_lba» .0) ++ (bytes 8 (p .«last_lba» .0) ++ (bytes 8 (p .flags) ++ unitBytes (p .name)))
-  at-32 =
-      let a : drop 16 (entryBytes p) ≡ guidBytes (p .«part_guid») ++ (bytes 8 (p .«first_lba» .0) ++ (bytes 8 (p .«last_lba» .0) ++ (bytes 8 (p .flags) ++ unitBytes (p .name)))) =
-      drop-next (entryBytes p) 0 (guidBytes (p .«part_type_guid»)) _ 16 refl (omega (arith, length-guid (p .«part_type_guid»))) in
-      drop-next (entryBytes p) 16 (guidBytes (p .«part_guid»)) _ 32 a (ap (λ (k : ℕ). 16 + k) (length-guid (p .«part_guid»)))
+  at-32 = drop-next (entryBytes p) 16 (guidBytes (p .«part_guid»)) _ 32 at-16 (ap (λ (k : ℕ). 16 + k) (length-guid (p .«part_guid»)))
+
+  pub record-guid : partGuidOf (entryBytes p) ≡ guidBytes (p .«part_guid»)
+  unfolding partGuidOf
+  record-guid = ap (take 16) at-16 ∙ take-at (guidBytes (p .«part_guid»)) _ 16 (length-guid (p .«part_guid»))
 
   pub record-first : p .«first_lba» .0 < 2 ^ 64 → firstOf (entryBytes p) ≡ p .«first_lba» .0
   unfolding firstOf

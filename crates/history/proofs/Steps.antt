@@ -20,7 +20,7 @@ use Rattle.partition.specs.Array.{Found}
 use Rattle.partition.specs.Held.{PartitionHeld}
 use Rattle.partition.proofs.Laws.{length-entry}
 use Rattle.tables.specs.Lens.{tablesAt, tables}
-use Rattle.tables.specs.Entries.{zeros, entry, setEntry, used, firstOf, lastOf}
+use Rattle.tables.specs.Entries.{zeros, entry, setEntry, used, firstOf, lastOf, partGuidOf}
 use Rattle.tables.specs.Check.{guidOf, slotCheck}
 use Rattle.card.specs.Calls.{putBytes, layAt, putAt, putCheck, clearAt, payloadAt, payloadCheck, layOutcome}
 use Rattle.history.specs.History.{Op, put, clear, payload, taken, doneAt, call, run, emptySlot, filledSlot, after, told, slotBytes, arrayOf}
@@ -30,7 +30,7 @@ use Rattle.tables.proofs.HeaderLaws.{guid-twice}
 use Rattle.history.proofs.State.{taken-zero, untaken-image, State, state-guid, state-front, lay-done}
 use Rattle.history.proofs.Changes.{put-ok, put-done, clear-slot, clear-done}
 use Rattle.history.proofs.Payload.{payload-tables, payload-length}
-use Rattle.history.proofs.Records.{small-record, record-first, record-last, held-named, named-twice, held-zero, named-zero, zero-bytes-of}
+use Rattle.history.proofs.Records.{small-record, record-first, record-last, record-guid, held-named, named-twice, held-zero, named-zero, zero-bytes-of}
 
 -- what a slot holds is a record as the code can hold it, its name cleared; it is present exactly where its type is not nil, and all zero where it is absent
 pub record Kept (f : Found) : Type 0 where
@@ -55,13 +55,16 @@ pub record Holds (B n : ℕ) (g : List ℕ) (slots : ℕ → Found) (xs : List �
   pub kept : (s : ℕ) → Kept (slots s)
   pub places : (s : ℕ) → 1 ≤ s → s ≤ 128 → entry array (s - 1) ≡ entryBytes (slots s .partition)
 
--- the blocks of an entry are those of its record
+-- the blocks and the GUID of an entry are those of its record
 module _ {B n : ℕ} {g xs : List ℕ} {slots : ℕ → Found} (h : Holds B n g slots xs) (s : ℕ) (a : 1 ≤ s) (b : s ≤ 128) where
   pub slot-first : firstOf (entry (h .array) (s - 1)) ≡ slots s .partition .«first_lba» .0
   slot-first = ap firstOf (h .places s a b) ∙ record-first (slots s .partition) (h .kept s .held .fields .first)
 
   pub slot-last : lastOf (entry (h .array) (s - 1)) ≡ slots s .partition .«last_lba» .0
   slot-last = ap lastOf (h .places s a b) ∙ record-last (slots s .partition) (h .kept s .held .fields .last)
+
+  pub slot-guid : partGuidOf (entry (h .array) (s - 1)) ≡ guidBytes (slots s .partition .«part_guid»)
+  slot-guid = ap partGuidOf (h .places s a b) ∙ record-guid (slots s .partition)
 
 -- the array is, byte for byte, that of the slots
 module _ {B n : ℕ} {g xs : List ℕ} {slots : ℕ → Found} (h : Holds B n g slots xs) where

@@ -1,5 +1,5 @@
 -- A list of calls after a lay, accepted and refused among them, and what it tells of every slot and every byte. What the card then is: `Card`.
--- From document 01, "The card calls" and "How much a contract has to say". Assumes nothing.
+-- From document 01, "The card calls" and "How much a contract has to say", and document 02, 3/13. Assumes nothing.
 use mathlib.Core.Path.{_≡_}
 use mathlib.Core.Logic.{_⊎_}
 use mathlib.Core.Bool.{Bool, true, false, _&&_}
@@ -152,6 +152,9 @@ pub record Card (B : ℕ) (g : Guid) (slots : ℕ → Found) (xs : List ℕ) : T
   pub within : (s : ℕ) → 1 ≤ s → s ≤ 128 → slots s .present ≡ true → Within B (length xs) (slots s .partition)
   pub apart : (s t : ℕ) → 1 ≤ s → s ≤ 128 → 1 ≤ t → t ≤ 128 → (s ≡ t → ⊥) → slots s .present ≡ true → slots t .present ≡ true
       → Apart (slots s .partition) (slots t .partition)
+  -- any two have different partition GUIDs
+  pub single : (s t : ℕ) → 1 ≤ s → s ≤ 128 → 1 ≤ t → t ≤ 128 → (s ≡ t → ⊥) → slots s .present ≡ true → slots t .present ≡ true
+      → slots s .partition .«part_guid» ≡ slots t .partition .«part_guid» → ⊥
 
 -- ---- after any calls on an image that was laid with a GUID: demand 3
 

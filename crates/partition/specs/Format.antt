@@ -28,7 +28,7 @@ firstZero (u ∷ us) = pick (eqb u 0) 0 (suc (firstZero us))
 unfoldable pub cleared : List ℕ → List ℕ
 cleared us = take (firstZero us) us ++ replicate (length us - firstZero us) 0
 
--- the blocks of the entry at a place, and whether its type is nil
+-- the blocks of the entry at a place, whether its type is nil, and the sixteen bytes of its partition GUID
 abbrev pub firstAt : List ℕ → ℕ → ℕ
 firstAt xs at = num xs (at + 32) 8
 
@@ -37,6 +37,9 @@ lastAt xs at = num xs (at + 40) 8
 
 abbrev pub nilTypeAt : List ℕ → ℕ → Bool
 nilTypeAt xs at = allZero (part xs at 16)
+
+abbrev pub partGuidAt : List ℕ → ℕ → List ℕ
+partGuidAt xs at = part xs (at + 16) 16
 
 -- the record at a place, its name ended by its first zero unit
 abbrev pub entryAt : List ℕ → ℕ → Partition

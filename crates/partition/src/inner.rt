@@ -39,6 +39,14 @@ pub fn nil_type_at(s: &[u8], at: BytePlace) -> bool
     units::inner::all_zero(s, at.0, 16)
 }
 
+// Where the partition GUID of the entry at a place stands.
+pub fn guid_place(at: BytePlace) -> BytePlace
+    requires { ⌜ at .0 + 16 < 2 ^ 64 ⌝ }
+    ensures { λ r. ⌜ r .0 ≡ at .0 + 16 ⌝ }
+{
+    BytePlace(at.0 + 16)
+}
+
 // The first block of the entry at a place.
 pub fn first_at(s: &[u8], at: BytePlace) -> Lba
     requires { ⌜ at .0 + 128 ≤ length (now s) ⌝ }

@@ -67,7 +67,7 @@ impl<'image> Card<'image> {
 
     /// Puts a record into a slot of both tables, in place of what the slot held. No byte of a partition changes.
     ///
-    /// Refused as [`open`](Card::open) is, then by 18, 19, 20, 21, 22.
+    /// Refused as [`open`](Card::open) is, then by 18, 19, 20, 21, 22, 25.
     pub fn put(&mut self, slot: u32, record: &Record) -> Result<(), Refusal> {
         let (image, b) = (&mut *self.image, self.block_size.bytes());
         // SAFETY: the pointer and the length are those of one slice that only this call has; a slice's pointer is not null, also where it is empty.

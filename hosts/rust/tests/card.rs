@@ -13,8 +13,9 @@ fn bytes_of(size: BlockSize) -> usize {
     size.bytes() as usize
 }
 
+/// A record with these blocks, and with a GUID by the first of them.
 fn record(first: u64, last: u64, name: &str) -> Record {
-    Record::new(Guid::BASIC_DATA, DISK, first, last, name).unwrap()
+    Record::new(Guid::BASIC_DATA, Guid::from_fields(first as u32, 1, 2, [3; 8]), first, last, name).unwrap()
 }
 
 fn laid(size: BlockSize, blocks: usize) -> Vec<u8> {
@@ -174,6 +175,9 @@ fn entries_that_a_card_cannot_have_are_refused() {
     };
     assert_eq!(check(&forged(1, &entry), B512), Ok(()));
     no_card(&mut forged(2, &entry), B512, Refusal::WrongLayout);
+    let beside = [&entry[..32], &41u64.to_le_bytes(), &41u64.to_le_bytes(), &entry[48..]].concat();
+    no_card(&mut forged(2, &beside), B512, Refusal::WrongLayout);
+    assert_eq!(check(&forged(2, &[&beside[..31], &[9], &beside[32..]].concat()), B512), Ok(()));
     no_card(&mut forged(1, &[&[0; 16], &entry[16..]].concat()), B512, Refusal::WrongLayout);
     no_card(&mut forged(1, &[&entry[..32], &33u64.to_le_bytes(), &entry[40..]].concat()), B512, Refusal::WrongLayout);
     no_card(&mut forged(1, &[&entry[..40], &67u64.to_le_bytes(), &entry[48..]].concat()), B512, Refusal::WrongLayout);
@@ -207,6 +211,26 @@ fn records_that_a_slot_cannot_hold_are_refused() {
         refused(&mut image, size, Refusal::Overlap { slot: 3 }, |card| card.put(1, &record(usable, usable, "map")));
         refused(&mut image, size, Refusal::Overlap { slot: 3 }, |card| card.put(128, &record(usable, usable, "map")));
     }
+}
+
+#[test]
+fn two_slots_with_one_guid_are_refused() {
+    let mut image = laid(B512, 100);
+    let bearing = |guid: u64, block: u64| Record { guid: record(guid, guid, "").guid, ..record(block, block, "map") };
+    let mut card = Card::open(&mut image, B512).unwrap();
+    card.put(2, &bearing(2, 34)).unwrap();
+    card.put(5, &bearing(5, 35)).unwrap();
+    refused(&mut image, B512, Refusal::TwinGuid { slot: 2 }, |card| card.put(7, &bearing(2, 36)));
+    refused(&mut image, B512, Refusal::TwinGuid { slot: 5 }, |card| card.put(1, &bearing(5, 36)));
+    refused(&mut image, B512, Refusal::TwinGuid { slot: 5 }, |card| card.put(2, &bearing(5, 34)));
+    refused(&mut image, B512, Refusal::Overlap { slot: 5 }, |card| card.put(7, &bearing(2, 35)));
+    let mut card = Card::open(&mut image, B512).unwrap();
+    card.put(2, &bearing(2, 37)).unwrap();
+    card.clear(2).unwrap();
+    card.put(7, &bearing(2, 36)).unwrap();
+    let nil = |block| Record { guid: Guid::NIL, ..record(block, block, "map") };
+    card.put(8, &nil(38)).unwrap();
+    refused(&mut image, B512, Refusal::TwinGuid { slot: 8 }, |card| card.put(9, &nil(39)));
 }
 
 #[test]

@@ -44,7 +44,7 @@ impl Dice {
         let last = if self.below(10) == 0 { self.near(first_usable, last_usable) } else { first.saturating_add(self.below(6)) };
         let type_guid = if self.below(20) == 0 { Guid::NIL } else { Guid::BASIC_DATA };
         let name = format!("é{:x}", self.next());
-        let guid = Guid::from_fields(self.next() as u32, 1, 2, [3; 8]);
+        let guid = Guid::from_fields(if self.below(4) == 0 { self.below(8) } else { self.next() } as u32, 1, 2, [3; 8]);
         Record { flags: self.next(), ..Record::new(type_guid, guid, first, last, &name).unwrap() }
     }
 }
@@ -75,6 +75,9 @@ impl Model {
         let meets = |(other, held): &(&u32, &Record)| **other != slot && held.first <= record.last && record.first <= held.last;
         if let Some((other, _)) = self.slots.iter().find(meets) {
             return Err(Refusal::Overlap { slot: *other });
+        }
+        if let Some((other, _)) = self.slots.iter().find(|(other, held)| **other != slot && held.guid == record.guid) {
+            return Err(Refusal::TwinGuid { slot: *other });
         }
         self.slots.insert(slot, *record);
         Ok(())
@@ -150,7 +153,7 @@ fn run(seed: u64, size: BlockSize, blocks: u64) {
         assert_eq!(card.get(asked), Ok(model.slots.get(&asked).copied()));
     }
     let numbers: Vec<u32> = seen.into_keys().collect();
-    assert_eq!(numbers, [0, 18, 19, 20, 21, 22, 23, 24], "the sequence meets every way out");
+    assert_eq!(numbers, [0, 18, 19, 20, 21, 22, 23, 24, 25], "the sequence meets every way out");
 }
 
 #[test]

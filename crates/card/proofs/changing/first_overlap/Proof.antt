@@ -9,8 +9,9 @@ use lib.Dec.{eqb}
 use Rattle.units.specs.Answer.{pick}
 use Rattle.units.specs.Bytes.{part}
 use Rattle.tables.specs.Entries.{entry, used, firstOf, lastOf, overlaps}
-use Rattle.checking.proofs.CheckWays.{entry-at}
-use Rattle.card.proofs.ChangeWays.{overlap-is, overlap-more, overlap-first, overlap-none}
+use Rattle.tables.proofs.Orders.{other-is}
+use Rattle.tables.proofs.EntryLaws.{entry-at}
+use Rattle.card.proofs.ChangeWays.{overlap-more, overlap-first, overlap-none}
 use Rattle.card.proofs.changing.first_overlap.Statement.{statement}
 use Rattle.card.proofs.changing.first_overlap.Tie as tie
 
@@ -41,7 +42,7 @@ found : (c : tie.After-overlaps Inv-loop μ-loop) → let a = c .before .before 
 found c e u f l =
     let a = c .before .before .before .before .before .args in
     let j = c .before .before .before .loop .j in
-    overlap-is (part (a .copy .now) (a .at .0) 16384) (a .k) e j (c .overlaps .ensures e u f l ∙ ap (overlaps e) (sym (entry-at (a .copy .now) (a .at .0) j (omega arith) (c .before .entry-place .ensures))))
+    other-is j (a .k) (c .overlaps .ensures e u f l ∙ ap (overlaps e) (sym (entry-at (a .copy .now) (a .at .0) j (omega arith) (c .before .entry-place .ensures))))
 
 returns : tie.Need-returns Inv-loop μ-loop
 returns c e u f l =

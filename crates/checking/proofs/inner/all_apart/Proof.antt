@@ -10,7 +10,9 @@ use Rattle.units.specs.Bytes.{part}
 use Rattle.tables.specs.Checks.{all}
 use Rattle.tables.specs.Entries.{entry, overlaps}
 use Rattle.checking.specs.Order.{greatestLast, Below}
-use Rattle.checking.proofs.CheckWays.{entry-at, all-fails, all-more, all-end, all-start, square}
+use Rattle.tables.proofs.Orders.{all-fails, all-more, all-end, all-start}
+use Rattle.tables.proofs.EntryLaws.{entry-at}
+use Rattle.checking.proofs.CheckWays.{square}
 use Rattle.checking.proofs.OrderLaws.{below-none, below-more}
 use Rattle.checking.proofs.inner.all_apart.Statement.{statement}
 use Rattle.checking.proofs.inner.all_apart.Tie as tie

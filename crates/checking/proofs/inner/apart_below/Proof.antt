@@ -7,8 +7,9 @@ use borrow.Author.Needs.{needs}
 use Rattle.units.specs.Bytes.{part, num, allZero}
 use Rattle.tables.specs.Checks.{all}
 use Rattle.tables.specs.Entries.{entry, overlaps}
-use Rattle.tables.proofs.Orders.{all-of}
-use Rattle.checking.proofs.CheckWays.{entry-at, all-fails, all-more, all-end, all-start, overlaps-unused, own-used, own-first, own-last}
+use Rattle.tables.proofs.Orders.{all-of, all-fails, all-more, all-end, all-start}
+use Rattle.tables.proofs.EntryLaws.{entry-at, own-used}
+use Rattle.checking.proofs.CheckWays.{overlaps-unused, own-first, own-last}
 use Rattle.checking.proofs.inner.apart_below.Statement.{statement}
 use Rattle.checking.proofs.inner.apart_below.Tie as tie
 

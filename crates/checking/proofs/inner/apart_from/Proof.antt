@@ -6,7 +6,7 @@ use native.Mathlib.Omega.{arith}
 use borrow.Author.Needs.{needs}
 use Rattle.units.specs.Bytes.{part}
 use Rattle.checking.specs.Order.{startsAfter}
-use Rattle.checking.proofs.CheckWays.{entry-at}
+use Rattle.tables.proofs.EntryLaws.{entry-at}
 use Rattle.checking.proofs.OrderLaws.{after-apart}
 use Rattle.checking.proofs.inner.apart_from.Statement.{statement}
 use Rattle.checking.proofs.inner.apart_from.Tie as tie

@@ -9,7 +9,8 @@ use Rattle.units.specs.Bytes.{part}
 use Rattle.tables.specs.Checks.{all}
 use Rattle.tables.specs.Places.{firstUsable, lastUsable}
 use Rattle.tables.specs.Entries.{entry, okEntry}
-use Rattle.checking.proofs.CheckWays.{entry-at, all-fails, all-more, all-end, all-start}
+use Rattle.tables.proofs.Orders.{all-fails, all-more, all-end, all-start}
+use Rattle.tables.proofs.EntryLaws.{entry-at}
 use Rattle.checking.proofs.inner.each_ok.Statement.{statement}
 use Rattle.checking.proofs.inner.each_ok.Tie as tie
 

@@ -9,7 +9,7 @@ use Rattle.units.specs.Bytes.{part}
 use Rattle.tables.specs.Checks.{all}
 use Rattle.tables.specs.Entries.{entry, okEntry, entriesOk}
 use Rattle.tables.proofs.Good.{room-ok}
-use Rattle.checking.proofs.CheckWays.{entries-bad, entries-apart}
+use Rattle.checking.proofs.CheckWays.{entries-bad, entries-meet, entries-single}
 use Rattle.tables.proofs.Copies.{array-of}
 use Rattle.checking.proofs.inner.entries_ok.Statement.{statement}
 use Rattle.checking.proofs.inner.entries_ok.Tie as tie
@@ -42,9 +42,20 @@ all-apart-requires c κs = search needs
 
 returns-2 : tie.Need-returns-2
 returns-2 c =
-    let k = c .before .before .before .before .before in
+    let i = c .before .before in
+    let k = i .before .before .before .before in
     let a = k .before .before .args in
-    entries-apart _ _ _ (each (c .before .before)) (c .before .if1 .left) (c .all-apart .ensures) ∙ ap (λ (l : List ℕ). entriesOk (a .b) (a .len) l) (array-of _ _ (a .copy .now) (k .array-in .ensures .0))
+    entries-meet _ _ _ (each (i .before)) (i .if1 .left) (c .before .all-apart .ensures) (c .if2 .taken) ∙ ap (λ (l : List ℕ). entriesOk (a .b) (a .len) l) (array-of _ _ (a .copy .now) (k .array-in .ensures .0))
+
+all-single-requires : tie.Need-all-single-requires
+all-single-requires c κs = search needs
+
+returns-3 : tie.Need-returns-3
+returns-3 c =
+    let i = c .before .before .before in
+    let k = i .before .before .before .before in
+    let a = k .before .before .args in
+    entries-single _ _ _ (each (i .before)) (i .if1 .left) (c .before .before .all-apart .ensures) (c .before .if2 .left) (c .all-single .ensures) ∙ ap (λ (l : List ℕ). entriesOk (a .b) (a .len) l) (array-of _ _ (a .copy .now) (k .array-in .ensures .0))
 
 pub entries-ok-spec : {M : Type 1} → statement M
 entries-ok-spec =
@@ -56,4 +67,6 @@ entries-ok-spec =
     each-ok-requires
     returns
     all-apart-requires
-    returns-2)
+    returns-2
+    all-single-requires
+    returns-3)
