@@ -17,6 +17,7 @@ static uint64_t block;
 static uint32_t used_slots;
 static bool alike;
 static uint8_t payload[PAYLOAD];
+static uint8_t noise[ARRAY];
 static card_row rows[128];
 static volatile uint64_t sink;
 
@@ -48,7 +49,8 @@ static void must(uint32_t number, const char *what) {
     }
 }
 
-static uint64_t do_sum(void) { return gpt_crc32(img + 2 * block, ARRAY); }
+// What the machine's clock is read by: random bytes, since the sum of a card's own array goes over its zeros.
+static uint64_t do_sum(void) { return gpt_crc32(noise, ARRAY); }
 static uint64_t do_check(void) { return card_check(img, len, block).number; }
 static uint64_t do_put(void) { return card_put(img, len, block, used_slots, record(used_slots)).number; }
 static uint64_t do_clear(void) { return card_clear(img, len, block, 128).number; }
@@ -124,6 +126,8 @@ int main(void) {
     static const uint32_t used[] = {1, 120};
     img = calloc(64 << 20, 1);
     if (!img) return 1;
+    srand(1);
+    for (size_t i = 0; i < sizeof noise; i++) noise[i] = (uint8_t)(rand() >> 7);
     printf("microseconds a call, median of %d samples of %d calls\n%6s %6s %5s", SAMPLES, CALLS, "image", "block", "used");
     for (int k = 0; k < KINDS; k++) printf(" %14s", calls[k].name);
     printf("\n");

@@ -1,4 +1,5 @@
-// Measures the check sum beside a plain byte table and zlib, in one run and in turn, and first compares all answers.
+// Measures the check sum beside a plain byte table and zlib, in one run and in turn, and first compares all answers: over random bytes, and over entry arrays with
+// few and many used slots.
 // Times are medians of many samples. The plain table is what a short C program would have: 256 entries, made once.
 #include <stdint.h>
 #include <stdio.h>
@@ -11,7 +12,7 @@
 uint32_t rt_header_sum(const uint8_t *p, size_t n);
 uint32_t rt_header_sums(const uint8_t *p, size_t n, uint32_t times);
 
-enum { HEADER = 92, SAMPLES = 101, ROOM = 1 << 20 };
+enum { HEADER = 92, ENTRY = 128, SLOTS = 128, SAMPLES = 101, ROOM = 1 << 20 };
 
 static uint32_t byte_table[256];
 
@@ -116,6 +117,30 @@ static int differs(const char *what, size_t n, uint32_t ours, uint32_t theirs) {
     return 1;
 }
 
+// An entry array: every so many slots one is used, until there are enough; a used slot has a type, a GUID, blocks and a short name.
+static void make_array(uint8_t *p, int used, int every) {
+    memset(p, 0, ENTRY * SLOTS + 16);
+    for (int k = 0; k < used; k++) {
+        uint8_t *e = p + ENTRY * every * k;
+        for (int i = 0; i < 32; i++) e[i] = (uint8_t)(rand() >> 7);
+        e[32] = e[40] = (uint8_t)(34 + k);
+        for (int i = 0; i < 5; i++) e[56 + 2 * i] = (uint8_t)"sheet"[i];
+    }
+}
+
+// Bytes that are mostly zero, of many lengths and cut in two anywhere.
+static int compare_sparse(uint8_t *p) {
+    int bad = 0;
+    for (int k = 0; k < 4000; k++) {
+        size_t n = (size_t)rand() % (k % 8 ? 3000 : 40000), cut = (size_t)rand() % (n + 1);
+        memset(p, 0, n);
+        for (int left = rand() % 40; left > 0; left--) p[(size_t)rand() % (n + 1)] = (uint8_t)rand();
+        bad |= differs("crc32 of few bytes that are not zero", n, gpt_crc32(p, n), zlib_sum(p, n));
+        bad |= differs("crc32_next of such bytes", n, gpt_crc32_next(gpt_crc32(p, cut), p + cut, n - cut), zlib_sum(p, n));
+    }
+    return bad;
+}
+
 // All lengths to 2000 at three places, headers, and the published check value.
 static int compare(const uint8_t *p) {
     int bad = differs("check value", 9, gpt_crc32((const uint8_t *)"123456789", 9), 0xCBF43926u);
@@ -134,19 +159,20 @@ static int compare(const uint8_t *p) {
 }
 
 static void line(const char *what, size_t n, const double t[3]) {
-    printf("%-10s %8zu", what, n);
+    printf("%-15s %8zu", what, n);
     for (int j = 0; j < 3; j++) printf("  %7.3f GB/s %9.1f ns", (double)n / t[j], t[j]);
     printf("   %5.2f of the table, %5.2f of zlib\n", t[1] / t[0], t[2] / t[0]);
 }
 
 int main(void) {
-    static uint8_t p[ROOM + 16];
+    static uint8_t p[ROOM + 16], sparse[40000];
     make_table();
     srand(1);
+    if (compare_sparse(sparse)) return 1;
     for (size_t i = 0; i < sizeof p; i++) p[i] = (uint8_t)(rand() >> 7);
     if (compare(p)) return 1;
-    printf("all answers equal, lengths 0 to 2000\n");
-    printf("%-10s %8s  %-25s %-25s %-25s  speed\n", "sum", "bytes", "ours", "plain byte table", "zlib");
+    printf("all answers equal, lengths 0 to 2000, and 4000 slices that are mostly zero\n");
+    printf("%-15s %8s  %-25s %-25s %-25s  speed\n", "sum", "bytes", "ours", "plain byte table", "zlib");
     const sum_fn slices[3] = {gpt_crc32, plain, zlib_sum};
     const sum_fn blocks_512[3] = {ours_512, plain_512, zlib_512};
     const sum_fn blocks_4096[3] = {ours_4096, plain_4096, zlib_4096};
@@ -156,6 +182,14 @@ int main(void) {
     for (size_t i = 0; i < sizeof sizes / sizeof *sizes; i++) {
         medians(slices, p, sizes[i], t);
         line("crc32", sizes[i], t);
+    }
+    static const struct { const char *name; int used, every; } arrays[] = {
+        {"none used", 0, 1}, {"1 used", 1, 1}, {"10 used", 10, 1}, {"10, each 12th", 10, 12}, {"60 used", 60, 1}, {"120 used", 120, 1}, {"128 used", 128, 1},
+    };
+    for (size_t i = 0; i < sizeof arrays / sizeof *arrays; i++) {
+        make_array(sparse, arrays[i].used, arrays[i].every);
+        medians(slices, sparse, ENTRY * SLOTS, t);
+        line(arrays[i].name, ENTRY * SLOTS, t);
     }
     medians(blocks_512, p, 16384, t);
     line("by 512", 16384, t);

@@ -10,6 +10,7 @@ import mmap
 import os
 import pathlib
 import pickle
+import random
 import re
 import shutil
 import subprocess
@@ -242,6 +243,16 @@ class Sums(unittest.TestCase):
             for at in range(0, 16384, length):
                 running = card.crc32_next(running, memoryview(array)[at:at + length])
             self.assertEqual(running, zlib.crc32(array))
+
+    def test_runs_of_zeros_are_summed_as_any_bytes(self):
+        draw = random.Random(4)
+        for _ in range(2000):
+            text = bytearray(draw.randrange(40000))
+            for _ in range(draw.randrange(30) if text else 0):
+                text[draw.randrange(len(text))] = draw.randrange(256)
+            cut = draw.randrange(len(text) + 1)
+            running = draw.randrange(1 << 32)
+            self.assertEqual(card.crc32_next(card.crc32_next(running, text[:cut]), text[cut:]), zlib.crc32(text, running))
 
     def test_it_goes_on_from_any_value_as_zlib_does(self):
         for running in (0, 1, 0x89ABCDEF, (1 << 32) - 1):

@@ -10,6 +10,7 @@ ghost use Rattle.crc32.specs.HeaderSum.{headerSum};
 use crate::FRESH;
 use crate::rows::ROWS;
 use crate::small;
+use crate::sparse;
 use crate::words::wide;
 use crate::words::word_at;
 
@@ -92,8 +93,8 @@ fn words(t: &[u32; 4096], r: u32, s: &[u8], from: usize) -> u32
     bytes(t, x, s, i)
 }
 
-// The register r after the bytes of s, block by block.
-fn run(t: &[u32; 4096], r: u32, s: &[u8]) -> u32
+// The register r after the bytes of s, block by block, whatever they are.
+pub fn run<'a>(t: &'a [u32; 4096], r: u32, s: &'a [u8]) -> u32
     requires { ⌜ Rows 16 (now t) ⌝ }
     ensures { λ x. ⌜ x ≡ feed r (now (s .entry)) ⌝ }
 {
@@ -111,7 +112,7 @@ pub fn sum<'a>(t: &'a [u32; 4096], running: u32, s: &'a [u8]) -> u32
     requires { ⌜ Rows 16 (now t) ⌝ }
     ensures { λ r. ⌜ r ≡ crcFrom running (now (s .entry)) ⌝ }
 {
-    run(t, running ^ 0xffffffff, s) ^ 0xffffffff
+    sparse::run(t, running ^ 0xffffffff, s) ^ 0xffffffff
 }
 
 // The check sum of the header of 92 bytes that starts at a place of s. Its own field, the bytes 16 to 19, goes in as four bytes of zero.

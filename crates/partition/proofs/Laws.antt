@@ -12,7 +12,7 @@ use lib.Dec.{eqb, leb}
 use lib.ListN.{length, take, drop, getD, set, replicate, length-append, length-replicate, drop-of-length-le, List·getD-append, getD-replicate, take-append-drop}
 use lib.Seq.{drop-cons, sets, sets-eq, getD-take, getD-append-add, getD-drop, length-take-le, take-at, drop-at}
 use borrow.Author.Needs.{length-unmapped, elem-fits-field}
-use borrow.Author.Tests.{eq-eqb, ne-eqb, eqb-true, le-leb, lt-leb}
+use borrow.Author.Tests.{eq-eqb, ne-eqb, le-leb, lt-leb}
 use denote.Shadow.{shadow}
 use denote.Struct.Declared.{row}
 use mir.Val.{Val}
@@ -23,8 +23,8 @@ use Rattle.units.specs.Answer.{pick}
 use Rattle.units.specs.Bytes.{part, le, num, bytes, allZero}
 use Rattle.units.specs.Guids.{guidAt, guidBytes}
 use Rattle.units.specs.Held.{Small}
-use Rattle.units.proofs.Lists.{part-join, length-part, part-split, sets-then, drop-sets, drop-next}
-use Rattle.units.proofs.Laws.{length-bytes, num-part, num-drop, num-here, field-here, bytes-num, and-both}
+use Rattle.units.proofs.Lists.{part-join, part-split, sets-then, drop-sets, drop-next}
+use Rattle.units.proofs.Laws.{length-bytes, num-part, num-drop, num-here, field-here, bytes-num, zero-part}
 use Rattle.units.proofs.GuidLaws.{fit-guid-of, guid-held-of, length-guid, guid-drop, guid-here, guid-part, guid-bytes-back}
 use Rattle.partition.specs.declared.Partition.{Partition}
 use Rattle.partition.specs.Format.{unitsAt, unitBytes, firstZero, cleared, entryAt, entryBytes, named, zeroPartition, fitted}
@@ -416,14 +416,6 @@ next-nowhere xs at count after k e p q =
 
 -- ---- presence is by the raw bytes
 
-zeros-are : (xs : List ℕ) → allZero xs ≡ true → xs ≡ replicate (length xs) 0
-unfolding allZero
-zeros-are [] e = refl
-zeros-are (x ∷ xs) e =
-    let b = and-both (eqb x 0) (allZero xs) e in
-    let z : x ≡ 0 = eqb-true x 0 (b .0) in
-    rw z (ap (λ (l : List ℕ). 0 ∷ l) (zeros-are xs (b .1)))
-
 zero-entry : (r : List ℕ) → entryAt (replicate 128 0 ++ r) 0 ≡ zeroPartition
 unfolding num le unitsAt cleared firstZero
 zero-entry r = refl
@@ -431,8 +423,7 @@ zero-entry r = refl
 -- an absent entry reads as the zero record
 pub absent-is-zero : (xs : List ℕ) (at : ℕ) → at + 128 ≤ length xs → allZero (part xs at 128) ≡ true → entryAt xs at ≡ zeroPartition
 absent-is-zero xs at h e =
-    let l : length (part xs at 128) ≡ 128 = length-part xs at 128 h in
-    let z : part xs at 128 ≡ replicate 128 0 = zeros-are (part xs at 128) e ∙ ap (λ (n : ℕ). replicate n 0) l in
+    let z : part xs at 128 ≡ replicate 128 0 = zero-part xs at 128 h e in
     let d : drop at xs ≡ replicate 128 0 ++ drop 128 (drop at xs) = sym (take-append-drop 128 (drop at xs)) ∙ ap (λ (y : List ℕ). y ++ drop 128 (drop at xs)) z in
     entry-drop xs at ∙ ap (λ (y : List ℕ). entryAt y 0) d ∙ zero-entry (drop 128 (drop at xs))
 

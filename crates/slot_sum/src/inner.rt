@@ -2,7 +2,7 @@
 ghost use mathlib.Core.Path.{_≡_};
 ghost use Prim.Native.Nat.{ℕ, _*_, _-_, _%_, _^_, _≤_, _<_};
 ghost use lib.ListN.{replicate};
-ghost use Rattle.crc32.specs.Crc.{step, steps, feed};
+ghost use Rattle.crc32.specs.Crc.{steps, feed};
 ghost use Rattle.crc32.specs.Rows.{Rows};
 ghost use Rattle.slot_sum.specs.SlotSum.{sumAfter};
 ghost use Rattle.slot_sum.specs.Powers.{Powers};
@@ -38,38 +38,6 @@ fn powers() -> [u32; 20]
     POWERS
 }
 
-// One bit of zero.
-fn one_bit(r: u32) -> u32
-    ensures { λ x. ⌜ x ≡ step r ⌝ }
-{
-    (r % 2 * 0xedb88320) ^ (r / 2)
-}
-
-// The register r, or 0, by the lowest bit of a.
-fn lowest_times(a: u32, r: u32) -> u32
-    ensures { λ x. ⌜ x ≡ a % 2 * r ⌝ }
-{
-    if a % 2 == 1 {
-        return r;
-    }
-    0
-}
-
-// The register r, as far on as a is from 0x80000000: the two are multiplied as polynomials, bit by bit.
-fn carried(a: u32, r: u32) -> u32
-    ensures { λ x. ⌜ ((n : ℕ) → a ≡ steps n 0x80000000 → x ≡ steps n r) ⌝ }
-{
-    let mut x = 0;
-    let mut rest = a;
-    let mut bits = 0u32;
-    while bits < 32 {
-        x = one_bit(x) ^ lowest_times(rest, r);
-        rest = rest / 2;
-        bits += 1;
-    }
-    x
-}
-
 // The register x after 2 ^ k bytes of zero, if what is left is odd.
 fn past_one(x: u32, left: usize, k: usize) -> u32
     requires { ⌜ k < 20 ⌝ }
@@ -77,7 +45,7 @@ fn past_one(x: u32, left: usize, k: usize) -> u32
 {
     if left % 2 == 1 {
         let p = powers();
-        return carried(p[k], x);
+        return crc32::carry::carried(p[k], x);
     }
     x
 }

@@ -403,3 +403,15 @@ unfolding allZero
 zero-at [] k e = refl
 zero-at (x ∷ xs) zero e = eqb-true x 0 (and-both (eqb x 0) (allZero xs) e .0)
 zero-at (x ∷ xs) (suc k) e = zero-at xs k (and-both (eqb x 0) (allZero xs) e .1)
+
+-- bytes that are all zero are as many zeros
+zeros-are : (xs : List ℕ) → allZero xs ≡ true → xs ≡ replicate (length xs) 0
+unfolding allZero
+zeros-are [] e = refl
+zeros-are (x ∷ xs) e =
+    let b = and-both (eqb x 0) (allZero xs) e in
+    let z : x ≡ 0 = eqb-true x 0 (b .0) in
+    rw z (ap (λ (l : List ℕ). 0 ∷ l) (zeros-are xs (b .1)))
+
+pub zero-part : (xs : List ℕ) (at n : ℕ) → at + n ≤ length xs → allZero (part xs at n) ≡ true → part xs at n ≡ replicate n 0
+zero-part xs at n h z = zeros-are (part xs at n) z ∙ ap (λ (m : ℕ). replicate m 0) (length-part xs at n h)

@@ -1,10 +1,10 @@
--- `inner::lowest_times` meets its contract: a bit is one or zero. Assumes nothing.
+-- `carry::lowest_times` meets its contract: a bit is one or zero. Assumes nothing.
 use mathlib.Core.Path.{_≡_, sym}
 use Prim.Native.Nat.{_%_}
 use native.Mathlib.Nat.{one-mul, zero-mul}
 use native.Mathlib.Omega.{arith}
-use Rattle.slot_sum.proofs.inner.lowest_times.Statement.{statement}
-use Rattle.slot_sum.proofs.inner.lowest_times.Tie as tie
+use Rattle.crc32.proofs.carry.lowest_times.Statement.{statement}
+use Rattle.crc32.proofs.carry.lowest_times.Tie as tie
 
 returns : tie.Need-returns
 returns c = sym (rw (c .if1 .taken) (one-mul (c .before .args .r)))

@@ -1,12 +1,11 @@
--- `inner::carried` meets its contract. The invariant: what is gathered, with the bits that are left, is the product. Assumes nothing.
-use mathlib.Core.Path.{_≡_, refl, sym, ap₂, _∙_}
+-- `carry::carried` meets its contract. The invariant: what is gathered, with the bits that are left, is the product. Assumes nothing.
+use mathlib.Core.Path.{_≡_, refl, sym, _∙_}
 use Prim.Native.Nat.{_≤_, _-_}
 use native.Mathlib.Omega.{arith}
-use lib.Bits.{bitXor}
 use borrow.Author.Needs.{needs}
-use Rattle.slot_sum.proofs.Product.{product, product-more, product-all, product-steps}
-use Rattle.slot_sum.proofs.inner.carried.Statement.{statement}
-use Rattle.slot_sum.proofs.inner.carried.Tie as tie
+use Rattle.crc32.proofs.Product.{product, product-more, product-all, product-steps}
+use Rattle.crc32.proofs.carry.carried.Statement.{statement}
+use Rattle.crc32.proofs.carry.carried.Tie as tie
 
 abbrev Inv-loop : tie.InvT-loop
 Inv-loop a r x₀ rest₀ bits₀ x rest bits = (bits ≤ 32) × (product (32 - bits) x rest r ≡ product 32 0 a r)

@@ -1,9 +1,9 @@
--- `inner::one_bit` meets its contract: it is the step itself. Assumes nothing.
+-- `carry::one_bit` meets its contract: it is the step itself. Assumes nothing.
 use mathlib.Core.Path.{refl}
 use borrow.Author.Needs.{needs}
 use Rattle.crc32.specs.Crc.{polynomial, step}
-use Rattle.slot_sum.proofs.inner.one_bit.Statement.{statement}
-use Rattle.slot_sum.proofs.inner.one_bit.Tie as tie
+use Rattle.crc32.proofs.carry.one_bit.Statement.{statement}
+use Rattle.crc32.proofs.carry.one_bit.Tie as tie
 
 mul-result : tie.Need-mul-result
 mul-result c = search needs
