@@ -36,8 +36,8 @@ extern "C" {
 #define CARD_SIZE(type, size) CARD_ASSERT(sizeof(type) == (size), "the size of " #type)
 #define CARD_AT(type, field, place) CARD_ASSERT(offsetof(type, field) == (place), "the place of " #field " in " #type)
 
-/* The bytes of stack that a call needs at most. Of these the check sum's table is 16,384, in every call that sums an array; all else was at most 1,784 when it
-   was last measured. tests/c/stack.c measures each call, and makes each on a thread of 24 KiB. */
+/* The bytes of stack that a call needs at most. Of these the check sum's table is 16,384, in every call that sums anything but one header alone; all else was at
+   most 2,152 when it was last measured. tests/c/stack.c measures every call, and makes it on a thread of 24 KiB. */
 #define CARD_STACK 20480
 
 /* The numbers that a call comes back with. A call's tests run in the order in which its numbers are listed beside it; 1 is always first. */
@@ -67,7 +67,7 @@ enum card_number {
     CARD_OVERLAP = 22,                 /* a block that another slot has; the answer names the lowest such slot */
     CARD_EMPTY_SLOT = 23,              /* the slot is not used */
     CARD_PAST_PARTITION = 24,          /* the bytes pass the partition's end */
-    CARD_TWIN_GUID = 25,               /* a partition GUID that another slot has; the answer names the lowest such slot */
+    CARD_TWIN_GUID = 25,               /* a partition GUID that another used slot has; the answer names the lowest such slot */
     /* No call gives a number from 26 on yet: each comes with its change request. */
     CARD_WRONG_STAGE = 26,             /* the stage is not the next one of this update */
     CARD_NO_GOOD_COPY = 27,            /* neither table of the card can be read */
@@ -280,8 +280,8 @@ CARD_AT(card_used_read, partition, 16);
    1, 8, 10. */
 card_answer card_lay(uint8_t *img, size_t img_len, uint64_t b, gpt_guid guid);
 
-/* The card check: both tables are whole, laid out as lay lays them, and say the same; each entry is unused or has usable blocks and a partition GUID of its own.
-   Block 0 is not read. A card with one GUID in two used slots is 16 to every card call but card_lay, which drops its slots. To mend it, write one of the entries with
+/* The card check: both tables are whole, laid out as lay lays them, and say the same; each entry is all zero, or has a type and usable blocks, and no two share a
+   block or a partition GUID. Block 0 is not read. A card with one GUID in two used slots is 16 to every card call but card_lay, which drops its slots. To mend it, write one of the entries with
    another GUID in both arrays (gpt_write_entry), and then both headers (gpt_write_primary, gpt_write_backup).
    1, 8, 10; 4, 5, 16, 6 of the primary table; 4, 5, 16, 6 of the backup; 17; 16. */
 card_answer card_check(const uint8_t *img, size_t img_len, uint64_t b);

@@ -64,7 +64,7 @@ NUMBERS = {
     22: ("Overlap", "a block that another slot has"),
     23: ("EmptySlot", "the slot is not used"),
     24: ("PastPartition", "the bytes pass the partition's end"),
-    25: ("TwinGuid", "a partition GUID that another slot has"),
+    25: ("TwinGuid", "a partition GUID that another used slot has"),
     # No call gives a number from 26 on yet: each comes with its change request.
     26: ("WrongStage", "the stage is not the next one of this update"),
     27: ("NoGoodCopy", "neither table of the card can be read"),
@@ -279,7 +279,7 @@ def lay(image, block_size, guid):
 
 
 def check(image, block_size):
-    """Raises Refused unless the image is a whole card. 1, 8, 10, 4, 5, 16, 6, 17."""
+    """Raises Refused unless the image is a whole card. 1, 8, 10; 4, 5, 16, 6 of each table; 17; 16 of the entries."""
     with _lent(image) as lent:
         _take(_check(*lent, _blocks(block_size)))
 

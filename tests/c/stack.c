@@ -21,7 +21,7 @@
 static uint8_t img[LEN], was[128], is[128];
 static card_row rows[128];
 static gpt_partition map = {.part_type_guid = {1, 2, 3, {4}}};
-static gpt_header header;
+static gpt_header header, backup;
 static volatile uint32_t number;
 
 /* A record of one block, and with a GUID by it. */
@@ -45,17 +45,44 @@ static void nth_used(void) { number = card_nth_used(img, LEN, BLOCK, 100).number
 static void list(void) { number = card_list(img, LEN, BLOCK, (uint8_t *)rows, sizeof rows).number; }
 static void crc32(void) { number = gpt_crc32(img, LEN) == 0; }
 static void crc32_next(void) { number = gpt_crc32_next(1, img, LEN) == 0; }
+static void read_primary(void) { number = gpt_read_primary_header(img, LEN, BLOCK).number; }
 static void read_backup(void) { number = gpt_read_backup_header(img, LEN, BLOCK).number; }
-static void write_primary(void) { number = gpt_write_primary(img, LEN, header, BLOCK).number; }
+static void find_backup(void) { number = gpt_find_backup_lba(LEN, BLOCK).number; }
+static void parts_sum(void) { number = gpt_partentry_checksum(img, LEN, header, BLOCK).number; }
 static void slot_sum(void) { number = gpt_slot_sum(1, was, 128, is, 128, 1048448).number; }
+static void write_primary(void) { number = gpt_write_primary(img, LEN, header, BLOCK).number; }
+static void write_backup(void) { number = gpt_write_backup(img, LEN, backup, BLOCK).number; }
 static void build(void) { number = gpt_build_from_header(header, BLOCK).number; }
+static void build_new(void) {
+    gpt_settings settings = gpt_settings_new(header.disk_guid);
+    settings.backup_lba = BLOCKS - 1;
+    number = gpt_build(settings, BLOCK).number;
+}
+static void from_bytes(void) { number = gpt_entry_from_bytes(was, 128).number; }
+static void to_bytes(void) { gpt_entry_to_bytes(is, 128, map), number = 0; }
+static void is_used(void) { number = !gpt_is_used(map); }
+static void sectors(void) { number = gpt_sectors_len(in_block(40)).number; }
+static void bytes(void) { number = gpt_bytes_len(in_block(40), BLOCK).number; }
+static void bytes_start(void) { number = gpt_bytes_start(in_block(40), BLOCK).number; }
+static void write_entry(void) { number = gpt_write_entry(img, LEN, map, 3, 2, BLOCK, 128).number; }
+static void zero_entries(void) { number = gpt_write_zero_entries(img, LEN, 0, 4, 100, BLOCK, 4096).number; }
 static void read_partition(void) { number = gpt_read_partition(img, LEN, header, BLOCK, 128).number; }
 static void count_partitions(void) { number = gpt_count_partitions(img, LEN, header, BLOCK).number; }
 static void next_partition(void) { number = gpt_next_partition(img, LEN, header, BLOCK, 64).number; }
 static void read_partitions(void) { number = gpt_file_read_partitions(img, LEN, header, BLOCK, (uint8_t *)rows, sizeof rows).number; }
-static void zero_entries(void) { number = gpt_write_zero_entries(img, LEN, 0, 4, 100, BLOCK, 4096).number; }
+static void mbr_from_bytes(void) { number = gpt_mbr_from_bytes(img, BLOCK, BLOCK).number; }
+static void mbr_from_image(void) { number = gpt_mbr_from_image(img, LEN, BLOCK).number; }
+static void mbr_record_read(void) { number = gpt_mbr_record_from_bytes(img + 446, 16).number; }
+static void mbr_record_bytes(void) { number = gpt_mbr_record_to_bytes(gpt_mbr_protective_record(9)).bytes[0]; }
+static void mbr_bytes(void) { number = gpt_mbr_to_bytes(gpt_mbr_new(9)).bytes[0]; }
+static void mbr_record(void) { number = gpt_mbr_record(gpt_mbr_new(9), 3).number; }
 static void mbr_set(void) { number = gpt_mbr_set_record(gpt_mbr_new(9), 3, gpt_mbr_protective_record(9)).number; }
 static void mbr_overwrite(void) { number = gpt_mbr_overwrite(img, LEN, gpt_mbr_new(LEN / BLOCK)).number; }
+static void mbr_conservative(void) { number = gpt_mbr_update_conservative(img, LEN, gpt_mbr_new(LEN / BLOCK)).number; }
+static void bootcode_read(void) { number = gpt_mbr_read_bootcode(img, LEN).number; }
+static void bootcode_write(void) { number = gpt_mbr_write_bootcode(img, LEN, (gpt_bootcode){{1}}).number; }
+static void signature_read(void) { number = gpt_mbr_read_disk_signature(img, LEN).number; }
+static void signature_write(void) { number = gpt_mbr_write_disk_signature(img, LEN, (gpt_signature){{1}}).number; }
 
 typedef struct kind {
     const char *name;
@@ -63,9 +90,12 @@ typedef struct kind {
 } kind;
 #define KIND(call) {#call, call}
 static const kind kinds[] = {
-    KIND(lay), KIND(check), KIND(put), KIND(clear), KIND(payload), KIND(count_used), KIND(next_used), KIND(read_slot), KIND(nth_used),
-    KIND(list), KIND(crc32), KIND(crc32_next), KIND(read_backup), KIND(write_primary), KIND(slot_sum), KIND(build), KIND(read_partition),
-    KIND(count_partitions), KIND(next_partition), KIND(read_partitions), KIND(zero_entries), KIND(mbr_set), KIND(mbr_overwrite),
+    KIND(lay), KIND(check), KIND(put), KIND(clear), KIND(payload), KIND(count_used), KIND(next_used), KIND(read_slot), KIND(nth_used), KIND(list),
+    KIND(crc32), KIND(crc32_next), KIND(read_primary), KIND(read_backup), KIND(find_backup), KIND(parts_sum), KIND(slot_sum), KIND(write_primary),
+    KIND(write_backup), KIND(build), KIND(build_new), KIND(from_bytes), KIND(to_bytes), KIND(is_used), KIND(sectors), KIND(bytes), KIND(bytes_start),
+    KIND(write_entry), KIND(zero_entries), KIND(read_partition), KIND(count_partitions), KIND(next_partition), KIND(read_partitions),
+    KIND(mbr_from_bytes), KIND(mbr_from_image), KIND(mbr_record_read), KIND(mbr_record_bytes), KIND(mbr_bytes), KIND(mbr_record), KIND(mbr_set),
+    KIND(mbr_overwrite), KIND(mbr_conservative), KIND(bootcode_read), KIND(bootcode_write), KIND(signature_read), KIND(signature_write),
 };
 enum { KINDS = sizeof kinds / sizeof kinds[0] };
 
@@ -80,6 +110,7 @@ static void fill(void) {
     lay();
     for (uint32_t slot = 1; slot <= 128; slot++) must(card_put(img, LEN, BLOCK, slot, in_block(162 - slot)).number == 0, "a put was refused");
     header = gpt_read_primary_header(img, LEN, BLOCK).header;
+    backup = gpt_read_backup_header(img, LEN, BLOCK).header;
 }
 
 static void *run(void *call) {

@@ -122,7 +122,7 @@ impl error::Error for NameError {}
 pub struct Record {
     /// What the partition is for.
     pub type_guid: Guid,
-    /// The partition's own GUID. It may repeat on a card.
+    /// The partition's own GUID. No other used slot of the card has it.
     pub guid: Guid,
     /// Its first block.
     pub first: u64,

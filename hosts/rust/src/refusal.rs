@@ -13,7 +13,7 @@ macro_rules! refusals {
                 /// The lowest slot that has such a block.
                 slot: u32,
             },
-            /// 25: a partition GUID that another slot has.
+            /// 25: a partition GUID that another used slot has.
             TwinGuid {
                 /// The lowest slot that has it.
                 slot: u32,
@@ -57,7 +57,7 @@ macro_rules! refusals {
                 match self {
                     $(Refusal::$name => f.write_str($meaning),)*
                     Refusal::Overlap { slot } => write!(f, "a block that another slot has (slot {slot})"),
-                    Refusal::TwinGuid { slot } => write!(f, "a partition GUID that another slot has (slot {slot})"),
+                    Refusal::TwinGuid { slot } => write!(f, "a partition GUID that another used slot has (slot {slot})"),
                 }
             }
         }
@@ -136,7 +136,7 @@ mod tests {
             let said = refusal.to_string();
             match refusal {
                 Refusal::Overlap { slot } => assert_eq!((slot, said.as_str()), (7, "refused 22, Overlap: a block that another slot has (slot 7)")),
-                Refusal::TwinGuid { slot } => assert_eq!((slot, said.as_str()), (7, "refused 25, TwinGuid: a partition GUID that another slot has (slot 7)")),
+                Refusal::TwinGuid { slot } => assert_eq!((slot, said.as_str()), (7, "refused 25, TwinGuid: a partition GUID that another used slot has (slot 7)")),
                 _ => assert_eq!(said, format!("refused {number}, {}: {meaning}", refusal.name())),
             }
         }
