@@ -18,9 +18,14 @@ line_of() {
     esac
 }
 
+# Whether this machine has each of these commands. The word x86-64 stands for the processor that programs and the library are compiled for; rt itself also runs on Arm.
 has() {
     for word in "$@"; do
-        command -v "$word" >/dev/null 2>&1 || { missing=$word; return 1; }
+        missing=$word
+        case $word in
+            x86-64) [ "$(uname -m)" = x86_64 ] || { missing="x86-64 processor"; return 1; } ;;
+            *) command -v "$word" >/dev/null 2>&1 || return 1 ;;
+        esac
     done
 }
 
@@ -84,21 +89,21 @@ fi
 run edits "each changed function of an edit"
 run programs "the programs that are run below"
 run example "the stored cards are the independent maker's" python3 cmp
-run lister-test "the lister" python3
-run demo "the sample card, laid and listed"
-run sums "the check sums of published vectors"
-run lib "the library for C" cc
-run boundary "every call across the boundary to C" cc
-run boundary-valgrind "every call across the boundary, under valgrind" cc valgrind
-run python "the Python module's example" python3 cc
-run race "calls beside a second writer" python3 cc
-run model "every call beside a model from the documents" python3 cc
-run rust "the Rust crate's tests" cargo cc
-run install-test "installed and used from there" cc install
-run documents "the documents' commands" python3 cc
-run interop "cards beside sgdisk, sfdisk, fdisk and parted" python3 cc sgdisk sfdisk fdisk parted
+run lister-test "the lister" x86-64 python3
+run demo "the sample card, laid and listed" x86-64
+run sums "the check sums of published vectors" x86-64
+run lib "the library for C" x86-64 cc
+run boundary "every call across the boundary to C" x86-64 cc
+run boundary-valgrind "every call across the boundary, under valgrind" x86-64 cc valgrind
+run python "the Python module's example" x86-64 python3 cc
+run race "calls beside a second writer" x86-64 python3 cc
+run model "every call beside a model from the documents" x86-64 python3 cc
+run rust "the Rust crate's tests" x86-64 cargo cc
+run install-test "installed and used from there" x86-64 cc install
+run documents "the documents' commands" x86-64 python3 cc
+run interop "cards beside sgdisk, sfdisk, fdisk and parted" x86-64 python3 cc sgdisk sfdisk fdisk parted
 run scripts-test "the scripts of the gate, with a stand-in for rt" python3
 IN_TEST=1
 export IN_TEST
-run differential "the port beside the Rust original" cargo cc
+run differential "the port beside the Rust original" x86-64 cargo cc
 echo "$ran $skipped" >"$logs/$line.count"

@@ -229,12 +229,22 @@ outside() {
     echo "$2" >"$makes/skips"
     said_by env PATH="$makes:$plain" "$copy/tests/outside.sh"
 }
+# A stand-in for the machine's name.
+machine() { printf '#!/bin/sh\necho %s\n' "$1" >"$makes/uname"; }
+machine x86_64
+chmod +x "$makes/uname"
 outside none none
 ok "tests/outside.sh runs each step" last_is "outside: $steps ran, 0 skipped"
 ok "and says how long it took" [ "$(printf '%s\n' "$said" | grep -c '^outside: .*: this is what .* said ([0-9]* s)$')" = "$steps" ]
 outside none interop
 ok "a step that skips itself is counted" last_is "outside: $((steps - 1)) ran, 1 skipped"
 ok "and named with the reason" has '^outside: cards beside .*: SKIPPED, this is what interop said'
+machine aarch64
+outside none none
+compiled=$(grep -c '^run .* x86-64' tests/outside.sh)
+ok "on another processor what is compiled for x86-64 is skipped" last_is "outside: $((steps - compiled)) ran, $compiled skipped"
+ok "and said so" has '^outside: the library for C: SKIPPED, this machine has no x86-64 processor$'
+machine x86_64
 for name in programs lib demo boundary; do
     outside "$name" none
     ok "make $name fails, and so does tests/outside.sh" [ "$status" -ne 0 ]
