@@ -166,7 +166,7 @@ race: lib
 
 # Compares every call of the library, its answers and every lent byte, with a model that was written from the documents alone (tests/model). Variables: SEED, SECONDS.
 model: lib
-	python3 tests/model/run.py --alone --seed 1 --cases 40000
+	python3 tests/model/run.py --alone --seed 1 --cases 50000
 	python3 tests/model/run.py $(if $(SEED),--seed $(SEED)) --seconds $(or $(SECONDS),30)
 
 # Removes all that was built and proved.

@@ -68,7 +68,7 @@ enum card_number {
     CARD_EMPTY_SLOT = 23,              /* the slot is not used */
     CARD_PAST_PARTITION = 24,          /* the bytes pass the partition's end */
     CARD_TWIN_GUID = 25,               /* a partition GUID that another used slot has; the answer names the lowest such slot */
-    /* No call gives a number from 26 on yet: each comes with its change request. */
+    /* Of the numbers from 26 on a call gives 28 alone yet: each other one comes with its change request. */
     CARD_WRONG_STAGE = 26,             /* the stage is not the next one of this update */
     CARD_NO_GOOD_COPY = 27,            /* neither table of the card can be read */
     CARD_RESERVED_FLAG = 28,           /* a flag that UEFI keeps reserved */
@@ -99,22 +99,56 @@ CARD_AT(gpt_guid, time_mid, 4);
 CARD_AT(gpt_guid, time_high, 6);
 CARD_AT(gpt_guid, tail, 8);
 
-/* An entry's record. Its 128 bytes in memory are those on the card. The name is 36 UTF-16 units, ended by the first zero. */
+/* An entry's flags by name, as UEFI divides the 64 bits: 0, 1 and 2 are the yes/no fields, 3 to 47 are reserved, and 48 to 63 are for the owner of the
+   entry's type. gpt_flags_of and gpt_flags_bits split and join the bits. */
+typedef struct gpt_flags {
+    uint64_t reserved;    /* bits 3 to 47 as a number: bit 3 alone is 1 */
+    uint16_t owner;       /* bits 48 to 63 */
+    bool required;        /* bit 0: the machine needs the partition */
+    bool no_block_io;     /* bit 1: firmware makes no block I/O protocol for it */
+    bool legacy_bootable; /* bit 2: a legacy BIOS may boot from it */
+} gpt_flags;
+CARD_SIZE(gpt_flags, 16);
+CARD_AT(gpt_flags, reserved, 0);
+CARD_AT(gpt_flags, owner, 8);
+CARD_AT(gpt_flags, required, 10);
+CARD_AT(gpt_flags, no_block_io, 11);
+CARD_AT(gpt_flags, legacy_bootable, 12);
+
+/* An entry's record. The name is 36 UTF-16 units, ended by the first zero. Its bytes in memory are not those on the card: gpt_entry_from_bytes and
+   gpt_entry_to_bytes convert them. */
 typedef struct gpt_partition {
+    gpt_guid part_type_guid;
+    gpt_guid part_guid;
+    uint64_t first_lba;
+    uint64_t last_lba;
+    gpt_flags flags;
+    uint16_t name[36];
+} gpt_partition;
+CARD_SIZE(gpt_partition, 136);
+CARD_AT(gpt_partition, part_type_guid, 0);
+CARD_AT(gpt_partition, part_guid, 16);
+CARD_AT(gpt_partition, first_lba, 32);
+CARD_AT(gpt_partition, last_lba, 40);
+CARD_AT(gpt_partition, flags, 48);
+CARD_AT(gpt_partition, name, 64);
+
+/* An entry as it stands on the card: its 128 bytes in memory are those there. flags are the 64 bits as a number, which gpt_flags_of splits. */
+typedef struct gpt_entry {
     gpt_guid part_type_guid;
     gpt_guid part_guid;
     uint64_t first_lba;
     uint64_t last_lba;
     uint64_t flags;
     uint16_t name[36];
-} gpt_partition;
-CARD_SIZE(gpt_partition, 128);
-CARD_AT(gpt_partition, part_type_guid, 0);
-CARD_AT(gpt_partition, part_guid, 16);
-CARD_AT(gpt_partition, first_lba, 32);
-CARD_AT(gpt_partition, last_lba, 40);
-CARD_AT(gpt_partition, flags, 48);
-CARD_AT(gpt_partition, name, 56);
+} gpt_entry;
+CARD_SIZE(gpt_entry, 128);
+CARD_AT(gpt_entry, part_type_guid, 0);
+CARD_AT(gpt_entry, part_guid, 16);
+CARD_AT(gpt_entry, first_lba, 32);
+CARD_AT(gpt_entry, last_lba, 40);
+CARD_AT(gpt_entry, flags, 48);
+CARD_AT(gpt_entry, name, 56);
 
 /* Major and minor revision; on the card the minor comes first. */
 typedef struct gpt_revision {
@@ -256,7 +290,7 @@ typedef struct gpt_slot_read {
     bool present;
     gpt_partition partition;
 } gpt_slot_read;
-CARD_SIZE(gpt_slot_read, 136);
+CARD_SIZE(gpt_slot_read, 144);
 CARD_AT(gpt_slot_read, number, 0);
 CARD_AT(gpt_slot_read, present, 4);
 CARD_AT(gpt_slot_read, partition, 8);
@@ -268,7 +302,7 @@ typedef struct card_used_read {
     uint32_t slot;
     gpt_partition partition;
 } card_used_read;
-CARD_SIZE(card_used_read, 144);
+CARD_SIZE(card_used_read, 152);
 CARD_AT(card_used_read, number, 0);
 CARD_AT(card_used_read, found, 4);
 CARD_AT(card_used_read, slot, 8);
@@ -287,7 +321,8 @@ card_answer card_lay(uint8_t *img, size_t img_len, uint64_t b, gpt_guid guid);
 card_answer card_check(const uint8_t *img, size_t img_len, uint64_t b);
 
 /* Puts a record into a slot of both tables; what the slot held is replaced, and the name's units after the first zero are cleared.
-   The check's numbers, then 18, 19, 20, 21, 22 over all other slots, then 25 over all other slots. */
+   The check's numbers, then 18, 19, 20, 21, 22 over all other slots, then 25 over all other slots, then 28 if flags.reserved is not 0: a record that was
+   read with reserved flags is not put back before they are taken out. The other slots keep theirs. */
 card_answer card_put(uint8_t *img, size_t img_len, uint64_t b, uint32_t slot, gpt_partition partition);
 
 /* Clears a slot in both tables. An unused one is accepted. The partition's bytes stay.
@@ -314,17 +349,17 @@ gpt_slot_read card_read_slot(const uint8_t *img, size_t img_len, uint64_t b, uin
    The check's numbers. */
 card_used_read card_nth_used(const uint8_t *img, size_t img_len, uint64_t b, uint32_t k);
 
-/* One row of card_list and of gpt_file_read_partitions. */
+/* One row of card_list and of gpt_file_read_partitions: the slot, and its entry as it stands on the card, the name's units after the first zero cleared. */
 typedef struct card_row {
     uint64_t slot;
-    gpt_partition partition;
+    gpt_entry entry;
 } card_row;
 CARD_SIZE(card_row, 136);
 CARD_AT(card_row, slot, 0);
-CARD_AT(card_row, partition, 8);
+CARD_AT(card_row, entry, 8);
 
-/* The listing into lent bytes, after one check: a card_row for each used slot, ascending, and how many there are. The record is the one
-   that card_read_slot gives. The bytes after the last row stay. out is a card_row array, as bytes, or any other bytes.
+/* The listing into lent bytes, after one check: a card_row for each used slot, ascending, and how many there are. The entry is that of the
+   record that card_read_slot gives. The bytes after the last row stay. out is a card_row array, as bytes, or any other bytes.
    The check's numbers, then 15 where out_len is less than 136 times the count. */
 gpt_count card_list(const uint8_t *img, size_t img_len, uint64_t b, uint8_t *out, size_t out_len);
 
@@ -420,16 +455,32 @@ typedef struct gpt_entry_read {
     uint32_t number;
     gpt_partition partition;
 } gpt_entry_read;
-CARD_SIZE(gpt_entry_read, 136);
+CARD_SIZE(gpt_entry_read, 144);
 CARD_AT(gpt_entry_read, number, 0);
 CARD_AT(gpt_entry_read, partition, 8);
+
+/* The flags in 64 bits, whatever they are. */
+gpt_flags gpt_flags_of(uint64_t bits);
+
+typedef struct gpt_flag_bits {
+    uint32_t number;
+    uint64_t bits;
+} gpt_flag_bits;
+CARD_SIZE(gpt_flag_bits, 16);
+CARD_AT(gpt_flag_bits, number, 0);
+CARD_AT(gpt_flag_bits, bits, 8);
+
+/* The 64 bits of flags. Those of flags that gpt_flags_of gave are the bits that it took.
+   28 if reserved needs more than 45 bits. */
+gpt_flag_bits gpt_flags_bits(gpt_flags flags);
 
 /* The record in the first 128 bytes; its name's units after the first zero are cleared.
    2. */
 gpt_entry_read gpt_entry_from_bytes(const uint8_t *bytes, size_t bytes_len);
 
-/* The record's 128 bytes, cut or filled with zeros to out_len. */
-void gpt_entry_to_bytes(uint8_t *out, size_t out_len, gpt_partition partition);
+/* The record's 128 bytes, cut or filled with zeros to out_len. The answer is the number alone.
+   28 if flags.reserved needs more than 45 bits, whatever out_len is. */
+uint32_t gpt_entry_to_bytes(uint8_t *out, size_t out_len, gpt_partition partition);
 
 /* Whether the type is not all zero. */
 bool gpt_is_used(gpt_partition partition);
@@ -463,7 +514,7 @@ CARD_AT(gpt_place, place, 8);
 gpt_place gpt_bytes_start(gpt_partition partition, uint64_t b);
 
 /* Stores the record as entry index, counted from 0, of an array of entries of entry_size bytes that starts in block start_lba.
-   1, 7 (0, or above 4,096), 3, 2. */
+   1, 7 (0, or above 4,096), 28 if flags.reserved needs more than 45 bits, 3, 2. */
 gpt_stored gpt_write_entry(uint8_t *img, size_t img_len, gpt_partition partition, uint64_t index, uint64_t start_lba, uint64_t b, uint32_t entry_size);
 
 /* Stores zeros over count entries from entry index on. No entries are accepted at any place that does not overflow.
@@ -482,7 +533,7 @@ gpt_count gpt_count_partitions(const uint8_t *img, size_t img_len, gpt_header he
    1, 3, 7, 2, 6. */
 gpt_next gpt_next_partition(const uint8_t *img, size_t img_len, gpt_header header, uint64_t b, uint32_t after);
 
-/* The present entries of that array into lent bytes: a card_row for each, ascending, and how many there are. The record is the one that
+/* The present entries of that array into lent bytes: a card_row for each, ascending, and how many there are. The entry is that of the record that
    gpt_read_partition gives. The bytes after the last row stay.
    1, 3, 7, 2, 6, 15 where out_len is less than 136 times the count. */
 gpt_count gpt_file_read_partitions(const uint8_t *img, size_t img_len, gpt_header header, uint64_t b, uint8_t *out, size_t out_len);

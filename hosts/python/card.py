@@ -8,17 +8,23 @@ The interpreter's lock is kept during a call, so that no other thread of Python 
 >>> import uuid
 >>> image = bytearray(68 * 512)
 >>> lay(image, 512, uuid.UUID("5a3f1c20-11e7-4b6d-9c04-0242ac110000"))
->>> record = Record(type=BASIC_DATA, guid=uuid.UUID(int=1), first=34, last=34, name="map")
+>>> record = Record(type=BASIC_DATA, guid=uuid.UUID(int=1), first=34, last=34, flags=Flags(required=True), name="map")
 >>> put(image, 512, 1, record)
 >>> for entry in listing(image, 512):
 ...     print(entry.slot, entry.record.first, entry.record.last, entry.record.name)
 1 34 34 map
+>>> listing(image, 512)[0].record.flags
+Flags(required=True, no_block_io=False, legacy_bootable=False, reserved=0, owner=0)
 >>> write_payload(image, 512, 1, 0, b"north ridge")
 11
 >>> put(image, 512, 2, record)
 Traceback (most recent call last):
   ...
 card.Refused: refused 22, Overlap: a block that another slot has (slot 1)
+>>> put(image, 512, 1, replace(record, flags=Flags.of_bits(8)))
+Traceback (most recent call last):
+  ...
+card.Refused: refused 28, ReservedFlag: a flag that UEFI keeps reserved
 >>> clear(image, 512, 1)
 >>> listing(image, 512), bytes(image[34 * 512:34 * 512 + 11])
 ([], b'north ridge')
@@ -34,7 +40,7 @@ import errno
 import operator
 import os
 import uuid
-from dataclasses import dataclass, field
+from dataclasses import dataclass, field, replace
 
 BASIC_DATA = uuid.UUID("ebd0a0a2-b9e5-4433-87c0-68b6b72699c7")
 FRESH = 0  # the sum of nothing, from which crc32_next starts a new sum
@@ -65,7 +71,7 @@ NUMBERS = {
     23: ("EmptySlot", "the slot is not used"),
     24: ("PastPartition", "the bytes pass the partition's end"),
     25: ("TwinGuid", "a partition GUID that another used slot has"),
-    # No call gives a number from 26 on yet: each comes with its change request.
+    # Of the numbers from 26 on a call gives 28 alone yet: each other one comes with its change request.
     26: ("WrongStage", "the stage is not the next one of this update"),
     27: ("NoGoodCopy", "neither table of the card can be read"),
     28: ("ReservedFlag", "a flag that UEFI keeps reserved"),
@@ -96,6 +102,28 @@ class Refused(Exception):
 
 
 @dataclass(frozen=True)
+class Flags:
+    """The flags of a partition by name: bits 0, 1 and 2 of the 64, bits 3 to 47 as a number (UEFI keeps them zero, and put refuses any other), and bits 48 to
+    63, which are for the owner of the partition's type."""
+
+    required: bool = False
+    no_block_io: bool = False
+    legacy_bootable: bool = False
+    reserved: int = 0
+    owner: int = 0
+
+    @classmethod
+    def of_bits(cls, bits):
+        """The flags in 64 bits, whatever they are."""
+        f = _flags_of(_number(bits, 64, "the flags' bits"))
+        return cls(f.required, f.no_block_io, f.legacy_bootable, f.reserved, f.owner)
+
+    def bits(self):
+        """The 64 bits. 28 if the reserved part needs more than 45 bits."""
+        return _take(_flags_bits(_flags(self))).bits
+
+
+@dataclass(frozen=True)
 class Record:
     """A partition: its type and its own GUID, its first and last block, its flags and its name of at most 36 UTF-16 units."""
 
@@ -103,7 +131,7 @@ class Record:
     guid: uuid.UUID
     first: int
     last: int
-    flags: int = 0
+    flags: Flags = Flags()
     name: str = field(default="")
 
 
@@ -115,7 +143,23 @@ class Entry:
     record: Record
 
 
+class _Flags(ctypes.Structure):
+    _fields_ = [("reserved", ctypes.c_uint64), ("owner", ctypes.c_uint16), ("required", ctypes.c_bool), ("no_block_io", ctypes.c_bool),
+                ("legacy_bootable", ctypes.c_bool)]
+
+
+class _Bits(ctypes.Structure):
+    _fields_ = [("number", ctypes.c_uint32), ("bits", ctypes.c_uint64)]
+
+
 class _Record(ctypes.Structure):
+    _fields_ = [("type", ctypes.c_uint8 * 16), ("guid", ctypes.c_uint8 * 16), ("first", ctypes.c_uint64), ("last", ctypes.c_uint64), ("flags", _Flags),
+                ("name", ctypes.c_uint16 * 36)]
+
+
+class _Entry(ctypes.Structure):
+    """An entry as it stands on the card."""
+
     _fields_ = [("type", ctypes.c_uint8 * 16), ("guid", ctypes.c_uint8 * 16), ("first", ctypes.c_uint64), ("last", ctypes.c_uint64),
                 ("flags", ctypes.c_uint64), ("name", ctypes.c_uint16 * 36)]
 
@@ -137,7 +181,7 @@ class _Count(ctypes.Structure):
 
 
 class _Row(ctypes.Structure):
-    _fields_ = [("slot", ctypes.c_uint64), ("record", _Record)]
+    _fields_ = [("slot", ctypes.c_uint64), ("entry", _Entry)]
 
 
 class _Buffer(ctypes.Structure):
@@ -148,7 +192,7 @@ class _Buffer(ctypes.Structure):
                 ("suboffsets", ctypes.c_void_p), ("internal", ctypes.c_void_p)]
 
 
-for _struct, _size in ((_Record, 128), (_Guid, 16), (_Answer, 8), (_Stored, 16), (_Count, 8), (_Row, 136), (_Buffer, 80)):
+for _struct, _size in ((_Flags, 16), (_Bits, 16), (_Record, 136), (_Entry, 128), (_Guid, 16), (_Answer, 8), (_Stored, 16), (_Count, 8), (_Row, 136), (_Buffer, 80)):
     if ctypes.sizeof(_struct) != _size:
         raise ImportError(f"{_struct.__name__} has {ctypes.sizeof(_struct)} bytes here, and not {_size}: this module is for x86-64")
 
@@ -196,6 +240,8 @@ _put = _declare("card_put", _Answer, *_slice, ctypes.c_uint64, ctypes.c_uint32, 
 _clear = _declare("card_clear", _Answer, *_slice, ctypes.c_uint64, ctypes.c_uint32)
 _payload = _declare("card_write_payload", _Stored, *_slice, ctypes.c_uint64, ctypes.c_uint32, ctypes.c_size_t, *_slice)
 _list = _declare("card_list", _Count, *_slice, ctypes.c_uint64, *_slice)
+_flags_of = _declare("gpt_flags_of", _Flags, ctypes.c_uint64)
+_flags_bits = _declare("gpt_flags_bits", _Bits, _Flags)
 _sum_next = _declare("gpt_crc32_next", ctypes.c_uint32, ctypes.c_uint32, *_slice)
 
 
@@ -251,14 +297,21 @@ def _record(r):
         raise ValueError(f"a name has at most 36 UTF-16 units: {r.name!r}")
     if "\0" in r.name:
         raise ValueError(f"a name ends at its first zero, so none can be in it: {r.name!r}")
-    raw = r.type.bytes_le + r.guid.bytes_le
-    raw += b"".join(_number(x, 64, "a number of the record").to_bytes(8, "little") for x in (r.first, r.last, r.flags))
-    return _Record.from_buffer_copy(raw + units.ljust(72, b"\0"))
+    first, last = (_number(x, 64, "a number of the record") for x in (r.first, r.last))
+    type_guid, guid = ((ctypes.c_uint8 * 16).from_buffer_copy(g.bytes_le) for g in (r.type, r.guid))
+    return _Record(type_guid, guid, first, last, _flags(r.flags), (ctypes.c_uint16 * 36).from_buffer_copy(units.ljust(72, b"\0")))
 
 
-def _read(r):
-    text = bytes(r.name).decode("utf-16-le", "surrogatepass").split("\0", 1)[0]
-    return Record(uuid.UUID(bytes_le=bytes(r.type)), uuid.UUID(bytes_le=bytes(r.guid)), r.first, r.last, r.flags, text)
+def _flags(f):
+    if not isinstance(f, Flags):
+        raise TypeError(f"the flags must be Flags, as Flags.of_bits makes them of a number, and not {type(f).__name__}")
+    reserved, owner = _number(f.reserved, 64, "the reserved flags"), _number(f.owner, 16, "the owner's flags")
+    return _Flags(reserved, owner, f.required, f.no_block_io, f.legacy_bootable)
+
+
+def _read(e):
+    text = bytes(e.name).decode("utf-16-le", "surrogatepass").split("\0", 1)[0]
+    return Record(uuid.UUID(bytes_le=bytes(e.type)), uuid.UUID(bytes_le=bytes(e.guid)), e.first, e.last, Flags.of_bits(e.flags), text)
 
 
 def _blocks(block_size):
@@ -285,7 +338,7 @@ def check(image, block_size):
 
 
 def put(image, block_size, slot, record):
-    """Puts a record into a slot of both tables. The check's numbers, then 18, 19, 20, 21, 22, 25."""
+    """Puts a record into a slot of both tables. The check's numbers, then 18, 19, 20, 21, 22, 25, and 28 if it has a reserved flag."""
     with _lent(image, written=True) as lent:
         _take(_put(*lent, _blocks(block_size), _number(slot, 32, "the slot"), _record(record)))
 
@@ -308,7 +361,7 @@ def listing(image, block_size):
     rows = (_Row * 128)()
     with _lent(image) as lent:
         n = _take(_list(*lent, _blocks(block_size), ctypes.byref(rows), ctypes.sizeof(rows))).count
-    return [Entry(row.slot, _read(row.record)) for row in rows[:n]]
+    return [Entry(row.slot, _read(row.entry)) for row in rows[:n]]
 
 
 def crc32_next(running, data):

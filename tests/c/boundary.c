@@ -46,7 +46,7 @@ static gpt_partition some(uint64_t first, uint64_t last) {
         .part_guid = {(uint32_t)(0xB3B2B1B0 + first), 0xB5B4, 0xB7B6, {0xB8, 0xB9, 0xBA, 0xBB, 0xBC, 0xBD, 0xBE, 0xBF}},
         .first_lba = first,
         .last_lba = last,
-        .flags = 0xC7C6C5C4C3C2C1C0,
+        .flags = {.reserved = 0, .owner = 0xC7C6, .required = true, .no_block_io = false, .legacy_bootable = true},
     };
     for (int i = 0; i < 36; i++) p.name[i] = (uint16_t)(0x4E00 + i);
     return p;
@@ -57,6 +57,40 @@ static uint64_t le(const uint8_t *at, int n) {
     while (n-- > 0) x = x << 8 | at[n];
     return x;
 }
+
+/* A record as it must stand on the card, made here and by no call of the library. */
+static gpt_entry stands(gpt_partition p) {
+    gpt_entry e = {.part_type_guid = p.part_type_guid, .part_guid = p.part_guid, .first_lba = p.first_lba, .last_lba = p.last_lba};
+    e.flags = p.flags.required | p.flags.no_block_io << 1 | p.flags.legacy_bootable << 2 | p.flags.reserved << 3 | (uint64_t)p.flags.owner << 48;
+    memcpy(e.name, p.name, sizeof e.name);
+    return e;
+}
+
+/* The bytes at a place are the record's. */
+static void stands_at(int line, const char *what, const uint8_t *at, gpt_partition want) {
+    gpt_entry e = stands(want);
+    bytes_at(line, what, at, &e, 128);
+}
+#define STANDS(at, want) stands_at(__LINE__, #at, (const uint8_t *)(at), want)
+
+/* A record came back field by field: its struct has bytes that hold nothing. */
+static void record_at(int line, const char *what, gpt_partition got, gpt_partition want) {
+    gpt_entry e = stands(got), f = stands(want);
+    bytes_at(line, what, &e, &f, 128);
+    same_at(line, what, got.flags.reserved, want.flags.reserved);
+    same_at(line, what, got.flags.owner, want.flags.owner);
+    same_at(line, what, got.flags.required << 2 | got.flags.no_block_io << 1 | got.flags.legacy_bootable,
+            want.flags.required << 2 | want.flags.no_block_io << 1 | want.flags.legacy_bootable);
+}
+#define RECORD(got, want) record_at(__LINE__, #got, got, want)
+
+/* Another record's flags. */
+static gpt_partition with_flags(gpt_partition p, gpt_flags flags) {
+    p.flags = flags;
+    return p;
+}
+
+static const gpt_partition no_record;
 
 static void cards(void) {
     card_answer a = card_lay(img, LEN, 1024, disk);
@@ -83,8 +117,8 @@ static void puts_two(void) {
     SAME(card_put(img, LEN, BLOCK, 1, some(36, 35)).number, CARD_BAD_RANGE);
     SAME(card_put(img, LEN, BLOCK, 1, some(33, 35)).number, CARD_OUTSIDE_USABLE);
     SAME(card_put(img, LEN, BLOCK, 7, p).number, 0);
-    BYTES(img + 2 * BLOCK + 6 * 128, &p, 128);
-    BYTES(img + (BLOCKS - 33) * BLOCK + 6 * 128, &p, 128);
+    STANDS(img + 2 * BLOCK + 6 * 128, p);
+    STANDS(img + (BLOCKS - 33) * BLOCK + 6 * 128, p);
     memcpy(before, img, LEN);
     card_answer a = card_put(img, LEN, BLOCK, 2, some(34, 35));
     SAME(a.number, CARD_OVERLAP);
@@ -124,9 +158,56 @@ static void twins(void) {
     SAME(gpt_count_partitions(img, LEN, front, BLOCK).count, 2);
     gpt_slot_read r = gpt_read_partition(img, LEN, front, BLOCK, 128);
     SAME(r.present, 1);
-    BYTES(&r.partition, &twin, 128);
+    RECORD(r.partition, twin);
     store_both(q, 127);
     SAME(card_check(img, LEN, BLOCK).number, 0);
+    KEPT();
+}
+
+/* Each part of the flags by itself, the widest reserved part and one that is too wide: split, joined, in an entry written alone, and in a put. */
+static void flags(void) {
+    static const struct {
+        uint64_t bits;
+        gpt_flags named;
+    } known[] = {
+        {1, {.required = true}},
+        {2, {.no_block_io = true}},
+        {4, {.legacy_bootable = true}},
+        {8, {.reserved = 1}},
+        {1ull << 47, {.reserved = 1ull << 44}},
+        {1ull << 48, {.owner = 1}},
+        {1ull << 63 | 1, {.required = true, .owner = 0x8000}},
+        {MOST, {.reserved = (1ull << 45) - 1, .owner = 0xFFFF, .required = true, .no_block_io = true, .legacy_bootable = true}},
+    };
+    uint8_t bytes[128];
+    memcpy(before, img, LEN);
+    for (size_t i = 0; i < sizeof known / sizeof *known; i++) {
+        gpt_partition p = with_flags(some(35, 36), known[i].named);
+        RECORD(with_flags(p, gpt_flags_of(known[i].bits)), p);
+        SAME(gpt_flags_bits(p.flags).number, 0);
+        SAME(gpt_flags_bits(p.flags).bits, known[i].bits);
+        SAME(gpt_entry_to_bytes(bytes, 128, p), 0);
+        SAME(le(bytes + 48, 8), known[i].bits);
+        RECORD(gpt_entry_from_bytes(bytes, 128).partition, p);
+        SAME(card_put(img, LEN, BLOCK, 7, p).number, p.flags.reserved ? CARD_RESERVED_FLAG : 0);
+    }
+    SAME(card_put(img, LEN, BLOCK, 7, some(35, 36)).number, 0);
+    KEPT();
+    gpt_partition wide = with_flags(some(36, 36), (gpt_flags){.reserved = 1ull << 45});
+    gpt_partition twin = wide;
+    twin.part_guid = some(34, 34).part_guid;
+    SAME(gpt_flags_bits(wide.flags).number, CARD_RESERVED_FLAG);
+    SAME(gpt_flags_bits(wide.flags).bits, 0);
+    memset(bytes, 0x77, sizeof bytes);
+    SAME(gpt_entry_to_bytes(bytes, 0, wide), CARD_RESERVED_FLAG);
+    SAME(gpt_entry_to_bytes(bytes, 128, wide), CARD_RESERVED_FLAG);
+    SAME(le(bytes + 120, 8), 0x7777777777777777);
+    SAME(gpt_write_entry(img, LEN, wide, 0, MOST, BLOCK, 4097).number, CARD_BAD_ENTRY_SIZE);
+    SAME(gpt_write_entry(img, LEN, wide, 0, MOST, BLOCK, 128).number, CARD_RESERVED_FLAG);
+    SAME(card_put(img, LEN, BLOCK, 129, wide).number, CARD_BAD_SLOT);
+    SAME(card_put(img, LEN, BLOCK, 1, wide).number, CARD_OVERLAP);
+    SAME(card_put(img, LEN, BLOCK, 7, twin).number, CARD_TWIN_GUID);
+    SAME(card_put(img, LEN, BLOCK, 7, wide).number, CARD_RESERVED_FLAG);
     KEPT();
 }
 
@@ -148,26 +229,26 @@ static void reads(void) {
     gpt_slot_read r = card_read_slot(img, LEN, BLOCK, 7);
     SAME(r.number, 0);
     SAME(r.present, 1);
-    BYTES(&r.partition, &p, 128);
+    RECORD(r.partition, p);
     r = card_read_slot(img, LEN, BLOCK, 8);
     SAME(r.number, 0);
     SAME(r.present, 0);
-    ZEROS(&r.partition, 128);
+    RECORD(r.partition, no_record);
     r = card_read_slot(img, LEN, BLOCK, 0);
     SAME(r.number, CARD_BAD_SLOT);
     SAME(r.present, 0);
-    ZEROS(&r.partition, 128);
+    RECORD(r.partition, no_record);
 
     card_used_read u = card_nth_used(img, LEN, BLOCK, 1);
     SAME(u.number, 0);
     SAME(u.found, 1);
     SAME(u.slot, 128);
-    BYTES(&u.partition, &q, 128);
+    RECORD(u.partition, q);
     u = card_nth_used(img, LEN, BLOCK, 2);
     SAME(u.number, 0);
     SAME(u.found, 0);
     SAME(u.slot, 0);
-    ZEROS(&u.partition, 128);
+    RECORD(u.partition, no_record);
     SAME(card_nth_used(img, 1000, BLOCK, 0).number, CARD_TO_SMALL_FOR_BACKUP);
 }
 
@@ -187,9 +268,9 @@ static void lists(void) {
     SAME(n.number, 0);
     SAME(n.count, 2);
     SAME(rows[0].slot, 7);
-    BYTES(&rows[0].partition, &p, 128);
+    STANDS(&rows[0].entry, p);
     SAME(rows[1].slot, 128);
-    BYTES(&rows[1].partition, &q, 128);
+    STANDS(&rows[1].entry, q);
     BYTES(&rows[2], &old[2], sizeof rows[2]);
 }
 
@@ -280,7 +361,7 @@ static void sums(void) {
     SAME(s.sum, 0);
 
     memcpy(before, img, LEN);
-    gpt_entry_to_bytes(before + 4 * BLOCK, 128, some(40, 41));
+    SAME(gpt_entry_to_bytes(before + 4 * BLOCK, 128, some(40, 41)), 0);
     s = gpt_slot_sum(h.header.crc32_parts, img + 4 * BLOCK, 128, before + 4 * BLOCK, 128, 16384 - 2 * BLOCK - 128);
     SAME(s.number, 0);
     SAME(s.sum, gpt_crc32(before + 2 * BLOCK, 16384));
@@ -371,21 +452,21 @@ static void entries(void) {
     gpt_partition p = some(5, 9);
     uint8_t bytes[200];
     memset(bytes, 0x77, sizeof bytes);
-    gpt_entry_to_bytes(bytes, 150, p);
-    BYTES(bytes, &p, 128);
+    SAME(gpt_entry_to_bytes(bytes, 150, p), 0);
+    STANDS(bytes, p);
     ZEROS(bytes + 128, 22);
     SAME(bytes[150], 0x77);
     memset(bytes, 0x77, sizeof bytes);
-    gpt_entry_to_bytes(bytes, 3, p);
+    SAME(gpt_entry_to_bytes(bytes, 3, p), 0);
     BYTES(bytes, &p, 3);
     SAME(bytes[3], 0x77);
-    gpt_entry_to_bytes(bytes, 128, p);
+    SAME(gpt_entry_to_bytes(bytes, 128, p), 0);
     gpt_entry_read e = gpt_entry_from_bytes(bytes, 128);
     SAME(e.number, 0);
-    BYTES(&e.partition, &p, 128);
+    RECORD(e.partition, p);
     e = gpt_entry_from_bytes(bytes, 127);
     SAME(e.number, CARD_SHORT);
-    ZEROS(&e.partition, 128);
+    RECORD(e.partition, no_record);
     SAME(gpt_is_used(p), 1);
     gpt_partition nil = p;
     memset(&nil.part_type_guid, 0, 16);
@@ -427,9 +508,9 @@ static void array_rows(const uint8_t *room, size_t len, gpt_header h, gpt_partit
     SAME(n.number, 0);
     SAME(n.count, 2);
     SAME(rows[0].slot, 4);
-    BYTES(&rows[0].partition, &q, 128);
+    STANDS(&rows[0].entry, q);
     SAME(rows[1].slot, 12);
-    BYTES(&rows[1].partition, &p, 128);
+    STANDS(&rows[1].entry, p);
     BYTES(&rows[2], &old[2], sizeof rows[2]);
     memset(rows, 0x5A, sizeof rows);
     SAME(gpt_file_read_partitions(room, len, h, BLOCK, (uint8_t *)rows, 272).count, 2);
@@ -443,7 +524,7 @@ static void arrays(void) {
     gpt_stored s = gpt_write_entry(room, sizeof room, p, 11, 2, BLOCK, 128);
     SAME(s.number, 0);
     SAME(s.bytes, 128);
-    BYTES(room + 2 * BLOCK + 11 * 128, &p, 128);
+    STANDS(room + 2 * BLOCK + 11 * 128, p);
     SAME(gpt_write_entry(room, sizeof room, q, 3, 2, BLOCK, 128).number, 0);
     SAME(gpt_write_entry(room, sizeof room, p, 3, 2, BLOCK, 4097).number, CARD_BAD_ENTRY_SIZE);
     SAME(gpt_write_entry(room, sizeof room, p, MOST, 2, BLOCK, 128).number, CARD_OVERFLOW);
@@ -454,7 +535,7 @@ static void arrays(void) {
     gpt_slot_read r = gpt_read_partition(room, sizeof room, h, BLOCK, 4);
     SAME(r.number, 0);
     SAME(r.present, 1);
-    BYTES(&r.partition, &q, 128);
+    RECORD(r.partition, q);
     SAME(gpt_read_partition(room, sizeof room, h, BLOCK, 13).number, CARD_BAD_SLOT);
     array_rows(room, sizeof room, h, p, q);
     SAME(gpt_write_zero_entries(room, sizeof room, 3, 2, 2, BLOCK, 128).bytes, 256);
@@ -572,6 +653,7 @@ int main(void) {
     cards();
     puts_two();
     twins();
+    flags();
     counts();
     reads();
     lists();

@@ -46,7 +46,7 @@ def our_card(blocks, size, used):
     for s in range(used):
         from_block = first + s * share
         to_block = last if s == used - 1 else from_block + share - 1
-        card.put(image, size, s + 1, card.Record(card.BASIC_DATA, uuid.UUID(int=s + 1), from_block, to_block, 0, f"map {s + 1}"))
+        card.put(image, size, s + 1, card.Record(card.BASIC_DATA, uuid.UUID(int=s + 1), from_block, to_block, name=f"map {s + 1}"))
     return image
 
 
@@ -112,12 +112,29 @@ def taken_over(what, path, size, want):
     step(f"{what}: our listing is theirs", spans(image, size) == want, str(spans(image, size)))
     taken = [b for _, f, t in want for b in (f, t)]
     last = usable(len(image) // size, size)[1]
-    record = card.Record(card.BASIC_DATA, uuid.UUID(int=77), last, last, 0, "ours")
+    record = card.Record(card.BASIC_DATA, uuid.UUID(int=77), last, last, name="ours")
     step(f"{what}: a put over their first slot's block is refused by 22", refusal(lambda: card.put(image, size, 9, card.Record(card.BASIC_DATA, uuid.UUID(int=7), taken[0], taken[0]))) == 22)
     card.put(image, size, 9, record)
     card.clear(image, size, want[0][0])
     accepted_by_all(f"{what}, slot 9 put and slot {want[0][0]} cleared by us", path, image, size)
     step(f"{what}: and lists both changes", spans(image, size) == want[1:] + [(9, last, last)], str(spans(image, size)))
+
+
+def flags(folder):
+    """Flags that sgdisk sets have their names here, and those that we put have their bits there."""
+    path = os.path.join(folder, "flags.img")
+    with open(path, "wb") as f:
+        f.truncate(2048 * 512)
+    run("sgdisk", "-a", "1", "-o", "-n", "1:40:99", "-n", "2:100:200", "-A", "1:set:2", "-A", "2:set:60", path)
+    image = load(path)
+    saw = [entry.record.flags for entry in card.listing(image, 512)]
+    step("flags that sgdisk set have their names", saw == [card.Flags(legacy_bootable=True), card.Flags(owner=1 << 12)], str(saw))
+    ours = card.Flags(required=True, legacy_bootable=True, owner=1 << 12)
+    card.put(image, 512, 3, card.Record(card.BASIC_DATA, uuid.UUID(int=78), 300, 300, ours, "ours"))
+    with open(path, "wb") as f:
+        f.write(image)
+    said = run("sgdisk", "-i", "3", path)[1]
+    step("flags that we put have their bits in sgdisk", "Attribute flags: 1000000000000005" in said, said)
 
 
 def others(folder):
@@ -163,6 +180,7 @@ def main():
                 for used in sorted({0, 1, min(3, room), min(120, room), min(128, room)}):
                     accepted_by_all(f"{blocks} blocks of {size}, {used} used", path, our_card(blocks, size, used), size)
         others(folder)
+        flags(folder)
     print(f"interop: {steps} steps, {failures} failed")
     return 1 if failures else 0
 

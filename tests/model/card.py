@@ -132,8 +132,8 @@ def card_check(img, b):
 
 @call(zero=(0,), lent=(0,))
 def card_put(img, b, slot, record):
-    """Document 01, Put: the check, 18, 19, 20, 21, 22; document 02, 3/13: then 25. Name units after the first zero are
-    cleared."""
+    """Document 01, Put: the check, 18, 19, 20, 21, 22; document 02, 3/13: then 25; 7/13: then 28 if the reserved part isn't
+    zero. Name units after the first zero are cleared."""
     card = check(img, b)
     need_slot(slot)
     if not entries.used(record):
@@ -143,6 +143,8 @@ def card_put(img, b, slot, record):
     if record.first_lba < card.usable[0] or record.last_lba > card.usable[1]:
         raise Refused(21, "first" if record.first_lba < card.usable[0] else "last")
     need_own_blocks_and_guid(card, slot, record)
+    if record.reserved:
+        raise Refused(28, "more than 45 bits" if record.reserved >> entries.RESERVED_BITS else "45 bits")
     store_slot(img, card, slot, entries.record_bytes(record._replace(name=entries.cleared(record.name))), b)
     return (0,)
 

@@ -6,7 +6,7 @@ import headers
 import images
 import model
 from draws import BAD_BLOCK_SIZES, ENTRY_SIZES, SLOTS
-from entries import record_from
+from entries import ROW, Flags, record_from
 from sums import FRESH, crc32
 from units import NIL
 
@@ -19,8 +19,8 @@ def slot(draw, image, b):
 
 def rows(draw, count):
     """A lent row: exact, one byte short, longer, or of any length."""
-    exact = 136 * count
-    length = draw.pick((exact, exact, exact - 1, exact + 1, exact - 136, exact + 136 + draw.below(200), draw.below(300)))
+    exact = ROW * count
+    length = draw.pick((exact, exact, exact - 1, exact + 1, exact - ROW, exact + ROW + draw.below(200), draw.below(300)))
     return draw.data(max(length, 0))
 
 
@@ -70,6 +70,7 @@ def put_call(draw, image, b):
     """The arguments of put; at times with a GUID of the card, or with a used slot's own GUID and its blocks or others."""
     size, at = size_and_slot(draw, image, b)
     record = put_record(draw, image, b)
+    record = record._replace(reserved=0) if draw.chance(75) else record
     held = images.used_entries(image, b)
     kind = draw.below(10)
     if not held or kind < 5:
@@ -307,6 +308,8 @@ LOOSE = {
     "gpt_settings_new": lambda draw, b: (draw.guid(),),
     "gpt_build": lambda draw, b: (draw.settings(b), any_block_size(draw, b)),
     "gpt_build_from_header": lambda draw, b: (draw.header_to_copy(b), any_block_size(draw, b)),
+    "gpt_flags_of": lambda draw, b: (draw.number(),),
+    "gpt_flags_bits": lambda draw, b: (Flags(*draw.flags()),),
     "gpt_entry_from_bytes": entry_bytes,
     "gpt_entry_to_bytes": lambda draw, b: (draw.data(draw.pick((0, 1, 15, 127, 128, 129, 256, 4096, draw.below(300)))), draw.record()),
     "gpt_is_used": lambda draw, b: (draw.record(),),

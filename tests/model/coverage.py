@@ -7,7 +7,7 @@ CHECK = {0, 1, 8, 10, 4, 5, 16, 6, 17}
 NUMBERS = {
     "card_lay": {0, 1, 8, 10},
     "card_check": CHECK,
-    "card_put": CHECK | {18, 19, 20, 21, 22, 25},
+    "card_put": CHECK | {18, 19, 20, 21, 22, 25, 28},
     "card_clear": CHECK | {18},
     "card_write_payload": CHECK | {18, 23, 24},
     "card_count_used": CHECK,
@@ -28,13 +28,15 @@ NUMBERS = {
     "gpt_build": {0, 1, 9, 3, 10},
     # A builder that was copied from a header has the lower of its two blocks as the primary, so 9 cannot come.
     "gpt_build_from_header": {0, 1, 3, 10},
+    "gpt_flags_of": {0},
+    "gpt_flags_bits": {0, 28},
     "gpt_entry_from_bytes": {0, 2},
-    "gpt_entry_to_bytes": {0},
+    "gpt_entry_to_bytes": {0, 28},
     "gpt_is_used": {0},
     "gpt_sectors_len": {0, 20, 3},
     "gpt_bytes_len": {0, 1, 20, 3},
     "gpt_bytes_start": {0, 1, 3},
-    "gpt_write_entry": {0, 1, 7, 3, 2},
+    "gpt_write_entry": {0, 1, 7, 28, 3, 2},
     "gpt_write_zero_entries": {0, 1, 7, 3, 2},
     "gpt_read_partition": {0, 1, 3, 7, 2, 6, 18},
     "gpt_count_partitions": {0, 1, 3, 7, 2, 6},
@@ -65,7 +67,15 @@ CHECK_STEPS = {(number, side) for number in (4, 5, 16, 6) for side in ("front", 
     (16, "two share a block"),
     (16, "two share a GUID"),
 }
-PUT_STEPS = {(21, "first"), (21, "last"), (22, "with 25 of a lower slot"), (25, "nil"), (25, "not nil")}
+PUT_STEPS = {
+    (21, "first"),
+    (21, "last"),
+    (22, "with 25 of a lower slot"),
+    (25, "nil"),
+    (25, "not nil"),
+    (28, "45 bits"),
+    (28, "more than 45 bits"),
+}
 PRODUCTS = {(3, step) for step in ("start product", "index product", "sum of the products", "end")}
 WRITES = {(3, "array start"), (2, "array"), (3, "own place"), (2, "own place")}
 BUILDS = {(3, "count times size"), (10, "backup too early"), (10, "first above last"), (3, "array start")}

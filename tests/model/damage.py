@@ -101,7 +101,7 @@ def odd_entry(draw, image, b, card):
     free = images.free_blocks(image, b) or [card.first_usable]
     low, high = card.first_usable, card.last_usable
     here = draw.pick(free)
-    record = draw.record()._replace(first_lba=here, last_lba=here)
+    record = draw.record()._replace(first_lba=here, last_lba=here, reserved=draw.pick((0, 0, 1, 2**45 - 1)))
     other = draw.pick(list(used.values()) or [(here, here)])
     kinds = [
         record._replace(last_lba=here - 1),
@@ -167,6 +167,19 @@ def name_tail(draw, image, b):
     return steps + [("seal", b, side == "front", True) for side in sides]
 
 
+def flags(draw, image, b):
+    """Any flags in a used slot, or one reserved bit alone, mostly in both arrays, with the sums repaired: the card stays
+    good, and put of another slot keeps them."""
+    card = images.places(len(image), b)
+    used = list(images.used_blocks(image, b))
+    if not card or not used:
+        return []
+    sides = draw.pick(SIDES + (("front", "back"),) * 6)
+    bits = draw.pick((draw.random.getrandbits(64), 1 << 3 + draw.below(45), 2**64 - 1))
+    steps = in_arrays(card, sides, draw.pick(used), 48, struct.pack("<Q", bits))
+    return steps + [("seal", b, side == "front", True) for side in sides]
+
+
 def disk_guid(draw, image, b):
     """Another disk GUID on one or both sides, with the sums repaired."""
     card = images.places(len(image), b)
@@ -194,7 +207,7 @@ def foreign_header(draw, image, b):
 
 
 ON_SHORT = (bit, length, block_zero, foreign_header, foreign_header, foreign_header)
-ON_ENTRIES = (entry, entry, entry, entry, name_tail, name_tail, twin_guid, twin_guid)
+ON_ENTRIES = (entry, entry, entry, entry, name_tail, name_tail, flags, twin_guid, twin_guid)
 ON_CARD = (bit, bit, field, field, field, signature, after_header, length, swap, disk_guid) + ON_ENTRIES
 KINDS = ON_CARD + (block_zero, foreign_header)
 

@@ -13,6 +13,8 @@ BAD_BLOCK_SIZES = [0, 1, 511, 513, 1024, 4095, 4097, 2**32 + 512, 2**32 + 4096, 
 # The last six are slots 1 and 128 again if a call drops their high bits.
 SLOTS = [0, 1, 2, 3, 127, 128, 129, 2**31, 2**32 - 1, 257, 384, 65537, 65664, 2**31 + 1, 2**31 + 128]
 ENTRY_SIZES = [0, 1, 127, 128, 129, 256, 4096, 4097, 2**31, 2**32 - 1]
+# A reserved part of 2**61 is 0 again, and one of 2**45 is the owner's 1, if a call shifts it without a test.
+RESERVED = [1, 2, 2**44, 2**45 - 1, 2**45, 2**45 + 1, 2**48, 2**60, 2**61, 2**61 + 1, 2**63, 2**64 - 1]
 COUNTS = [0, 1, 4, 127, 128, 129, 256, 2**25, 2**32 - 1]
 
 
@@ -80,11 +82,16 @@ class Draw:
             units[end:] = [0] * (36 - end)
         return tuple(units)
 
+    def flags(self):
+        """Three flags, a reserved part that is zero, at an edge or any, and the owner's number."""
+        reserved = 0 if self.chance(50) else self.pick((self.pick(RESERVED), self.below(2**45), self.number()))
+        return self.below(2), self.below(2), self.below(2), reserved, self.number(16)
+
     def record(self, near=()):
         """A partition record with any blocks, near the given ones at times."""
         first = self.number(64, near)
         last = max(first + self.pick((-1, 0, 0, 1, 5)), 0) & 2**64 - 1 if self.chance(50) else self.number(64, near)
-        return entries.Partition(self.guid(), self.guid(), first, last, self.number(), self.name())
+        return entries.Partition(self.guid(), self.guid(), first, last, *self.flags(), self.name())
 
     def header(self, near=()):
         """A header with any fields, near the given block numbers at times."""

@@ -1,4 +1,4 @@
-"""Partition entries (document 01, Partition entry): records, lengths, device writes and reading the array."""
+"""Partition entries (document 01, Partition entry; document 02, 7/13): records, lengths, device writes, reading the array."""
 
 import struct
 from collections import namedtuple
@@ -10,10 +10,15 @@ ENTRY = 128
 ROW = 136
 UNITS = 36
 GREATEST_SIZE = 4096
+RESERVED_BITS = 45
 LAYOUT = struct.Struct("<16s16sQQQ36H")
 
-Partition = namedtuple("Partition", "part_type_guid part_guid first_lba last_lba flags name")
-ZERO = Partition(NIL, NIL, 0, 0, 0, (0,) * UNITS)
+Partition = namedtuple(
+    "Partition",
+    "part_type_guid part_guid first_lba last_lba required no_block_io legacy_bootable reserved owner name",
+)
+Flags = namedtuple("Flags", "required no_block_io legacy_bootable reserved owner")
+ZERO = Partition(NIL, NIL, 0, 0, 0, 0, 0, 0, 0, (0,) * UNITS)
 
 
 def cleared(name):
@@ -22,25 +27,40 @@ def cleared(name):
     return name[:end] + (0,) * (UNITS - end)
 
 
+def split_flags(bits):
+    """Document 02, 7/13: bits 0, 1 and 2 as yes or no, the reserved bits 3 to 47 and the owner's 48 to 63 as numbers."""
+    return bits & 1, bits >> 1 & 1, bits >> 2 & 1, bits >> 3 & (1 << RESERVED_BITS) - 1, bits >> 48
+
+
+def joined_flags(record):
+    """Document 02, 7/13: the 64 bits of an entry; 28 if the reserved part needs more than 45 bits."""
+    if record.reserved >> RESERVED_BITS:
+        raise Refused(28)
+    low = record.required | record.no_block_io << 1 | record.legacy_bootable << 2
+    return low | record.reserved << 3 | record.owner << 48
+
+
 def record_from(raw):
-    """Document 01, Partition entry: the places of the fields; reading clears the name after its first zero unit."""
-    kind, guid, first, last, flags, *name = LAYOUT.unpack(raw)
-    return Partition(guid_from(kind), guid_from(guid), first, last, flags, cleared(tuple(name)))
+    """Document 01, Partition entry: the places of the fields; reading clears the name after its first zero unit.
+    Document 02, 7/13: the flags have names; reading never gives 28."""
+    kind, guid, first, last, bits, *name = LAYOUT.unpack(raw)
+    return Partition(guid_from(kind), guid_from(guid), first, last, *split_flags(bits), cleared(tuple(name)))
 
 
 def record_bytes(record):
-    """Document 01, Partition entry: the record's 128 bytes; the name's 36 units are written as they are."""
-    ranges = (record.first_lba, record.last_lba, record.flags)
+    """Document 01, Partition entry: the record's 128 bytes; the name's 36 units are written as they are. Document 02,
+    7/13: 28 if the flags cannot be joined."""
+    ranges = (record.first_lba, record.last_lba, joined_flags(record))
     return LAYOUT.pack(guid_bytes(record.part_type_guid), guid_bytes(record.part_guid), *ranges, *record.name)
 
 
 def cut_or_filled(record, n):
-    """Document 01, Partition entry: the record's 128 bytes cut or zero-filled to n."""
+    """Document 01, Partition entry: the record's 128 bytes cut or zero-filled to n. Document 02, 7/13: 28, whatever n is."""
     return record_bytes(record)[:n].ljust(n, b"\0")
 
 
 def row_bytes(slot, record):
-    """card.h, card_row: the slot as a 64-bit number, then the record's 128 bytes."""
+    """card.h, card_row: the slot as a 64-bit number, then the record's 128 bytes as an entry has them, flags joined."""
     return struct.pack("<Q", slot) + record_bytes(record)
 
 
@@ -52,6 +72,18 @@ def fill_rows(out, found):
     out[: len(rows)] = rows
 
 
+@call(zero=(0,) * 5)
+def gpt_flags_of(bits):
+    """Document 02, 7/13: the flags in 64 bits; reading never gives 28."""
+    return split_flags(bits)
+
+
+@call(zero=(0,))
+def gpt_flags_bits(flags):
+    """Document 02, 7/13: the 64 bits of flags; 28 if the reserved part needs more than 45 bits."""
+    return (joined_flags(flags),)
+
+
 @call(zero=(ZERO,), lent=(0,))
 def gpt_entry_from_bytes(data):
     """Document 01, Partition entry: reading; fewer bytes than 128 give 2."""
@@ -61,7 +93,8 @@ def gpt_entry_from_bytes(data):
 
 @call(zero=(), lent=(0,))
 def gpt_entry_to_bytes(out, record):
-    """Document 01, Partition entry: "Writing fills a lent buffer of n bytes"."""
+    """Document 01, Partition entry: "Writing fills a lent buffer of n bytes". Document 02, 7/13: 28; the answer is the
+    number alone."""
     out[:] = cut_or_filled(record, len(out))
     return ()
 
@@ -104,11 +137,15 @@ def gpt_bytes_start(record, b):
     return (fits(record.first_lba * b, "product"),)
 
 
-def device_place(index, length, start, b, size):
-    """Document 01, Partition entry, device writes: 7, then 3 for start product, index product, their sum, the length and the end."""
+def need_device_sizes(b, size):
+    """Document 01, Partition entry, device writes: 1, then 7."""
     need_block_size(b)
     if size == 0 or size > GREATEST_SIZE:
         raise Refused(7)
+
+
+def device_place(index, length, start, b, size):
+    """Document 01, Partition entry, device writes: 3 for start product, index product, their sum, the length and the end."""
     first = fits(start * b, "start product")
     offset = fits(index * size, "index product")
     place = fits(first + offset, "sum of the products")
@@ -119,16 +156,20 @@ def device_place(index, length, start, b, size):
 
 @call(zero=(0,), lent=(0,))
 def gpt_write_entry(img, record, index, start, b, size):
-    """Document 01, Partition entry, device writes: 7, 3, 2; the answer is how many bytes were stored."""
+    """Document 01, Partition entry, device writes: 7, 3, 2; the answer is how many bytes were stored. Document 02, 7/13:
+    28 after 7, so 1, 7, 28, 3, 2."""
+    need_device_sizes(b, size)
+    raw = cut_or_filled(record, size)
     place = device_place(index, size, start, b, size)
     need_inside(img, place, size)
-    img[place : place + size] = cut_or_filled(record, size)
+    img[place : place + size] = raw
     return (size,)
 
 
 @call(zero=(0,), lent=(0,))
 def gpt_write_zero_entries(img, index, count, start, b, size):
     """Document 01, Partition entry, device writes; Numbers: zeroing no entries is accepted at any start that does not overflow."""
+    need_device_sizes(b, size)
     length = count * size
     place = device_place(index, length, start, b, size)
     if count:

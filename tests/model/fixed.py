@@ -3,6 +3,7 @@ published check sums and what document 02 changes."""
 
 import builder
 import entries
+import fixed_flags
 import fixed_twins
 import headers
 import mbr
@@ -87,7 +88,7 @@ def card_cases(calls):
     image = calls["card_lay"](bytes(68 * 512), 512, GUID)[2][0]
     record = entries.ZERO._replace(part_type_guid=GUID, first_lba=34, last_lba=34)
     image = calls["card_put"](image, 512, 1, record)[2][0]
-    yield "one slot", calls["card_list"](image, 512, bytes(136))[0:3:2], (0, (image, entries.row_bytes(1, record)))
+    yield "one slot", calls["card_list"](image, 512, bytes(entries.ROW))[0:3:2], (0, (image, entries.row_bytes(1, record)))
     yield "put over itself", calls["card_put"](image, 512, 1, record), (0, (0,), (image,))
     yield "overlap", calls["card_put"](image, 512, 2, record)[:2], (22, (1,))
     yield "one block fewer", calls["card_lay"](bytes(67 * 512), 512, GUID)[0], 10
@@ -95,7 +96,7 @@ def card_cases(calls):
     yield "nil type", calls["card_put"](image, 512, 1, record._replace(part_type_guid=NIL))[0], 19
 
 
-GROUPS = (built_fields, small_cases, running_cases, card_cases, *fixed_twins.GROUPS)
+GROUPS = (built_fields, small_cases, running_cases, card_cases, *fixed_twins.GROUPS, *fixed_flags.GROUPS)
 
 
 def wrong(calls):

@@ -1,5 +1,6 @@
 """Cases with known answers of document 02, 3/13: two slots, one partition GUID."""
 
+from entries import ROW
 from known import B, FIRST, LAST, card, own_guid, record, refused_alike, with_entry, with_guid, with_header
 from sums import crc32
 from units import NIL, guid_bytes, guid_from
@@ -99,7 +100,7 @@ def other_cases(calls):
     yield "header", header.crc32_parts, crc32(twins[2 * B : 2 * B + 16384])
     yield "count", calls["gpt_count_partitions"](twins, header, B)[:2], (0, (2,))
     yield "next", calls["gpt_next_partition"](twins, header, B, 2)[:2], (0, (5,))
-    yield "rows", calls["gpt_file_read_partitions"](twins, header, B, bytes(272))[:2], (0, (2,))
+    yield "rows", calls["gpt_file_read_partitions"](twins, header, B, bytes(2 * ROW))[:2], (0, (2,))
     for slot, first in ((2, 34), (5, 35)):
         yield f"slot {slot}", calls["gpt_read_partition"](twins, header, B, slot)[:2], (0, (1, record(2, first)))
     yield "writing the header", calls["gpt_write_primary"](twins, header, B), (0, (B, header), (twins,))

@@ -19,12 +19,17 @@ class LayoutError(Exception):
     """A structure or a lent buffer is not as card.h says."""
 
 
+class Number(c_uint32):
+    """An answer that is the number alone."""
+
+
 def structure(name, size, fields, shape=None):
-    """A C structure with card.h's size and places, which are tried here. shape is the model's tuple for it."""
+    """A C structure with card.h's size and places, which are tried here. shape is the model's tuple for it; its names are
+    the same, their order need not be. A name that begins with _ stands for bytes that hold nothing."""
     kind = type(name, (ctypes.Structure,), {"_fields_": [(field, ctype) for field, ctype, _ in fields]})
     if ctypes.sizeof(kind) != size:
         raise LayoutError(f"the size of {name} is {ctypes.sizeof(kind)}, not {size}")
-    if shape and shape._fields != tuple(field for field, _, _ in fields):
+    if shape and sorted(shape._fields) != sorted(field for field, _, _ in fields if field[0] != "_"):
         raise LayoutError(f"the fields of {name} are not the model's")
     for field, _, place in fields:
         if getattr(kind, field).offset != place:
@@ -49,16 +54,28 @@ GUID = structure(
     [("time_low", c_uint32, 0), ("time_mid", c_uint16, 4), ("time_high", c_uint16, 6), ("tail", c_uint8 * 8, 8)],
     units.Guid,
 )
+FLAGS_FIELDS = ("required", "no_block_io", "legacy_bootable")
+FLAGS = structure(
+    "gpt_flags",
+    16,
+    [("reserved", c_uint64, 0), ("owner", c_uint16, 8), *fields_of(c_uint8, *FLAGS_FIELDS, start=10)],
+    entries.Flags,
+)
+# The one place that says how card.h's record lies, its gpt_flags spread out; the answers that hold a record take their size from here.
 PARTITION = structure(
     "gpt_partition",
-    128,
+    136,
     [
         *fields_of(GUID, "part_type_guid", "part_guid"),
-        *fields_of(c_uint64, "first_lba", "last_lba", "flags", start=32),
-        ("name", c_uint16 * 36, 56),
+        *fields_of(c_uint64, "first_lba", "last_lba", "reserved", start=32),
+        ("owner", c_uint16, 56),
+        *fields_of(c_uint8, *FLAGS_FIELDS, start=58),
+        ("_rest", c_uint8 * 3, 61),
+        ("name", c_uint16 * 36, 64),
     ],
     entries.Partition,
 )
+HELD = ctypes.sizeof(PARTITION)
 REVISION = structure("gpt_revision", 4, fields_of(c_uint16, "major", "minor"), headers.Revision)
 HEADER = structure(
     "gpt_header",
@@ -105,13 +122,14 @@ CARD_ANSWER = answer("card_answer", 8, ("slot", c_uint32, 4))
 STORED = answer("gpt_stored", 16, ("bytes", c_uint64, 8))
 COUNT = answer("gpt_count", 8, ("count", c_uint32, 4))
 NEXT = answer("gpt_next", 8, ("slot", c_uint32, 4))
-SLOT_READ = answer("gpt_slot_read", 136, ("present", c_uint8, 4), ("partition", PARTITION, 8))
-USED_READ = answer("card_used_read", 144, ("found", c_uint8, 4), ("slot", c_uint32, 8), ("partition", PARTITION, 16))
+SLOT_READ = answer("gpt_slot_read", 8 + HELD, ("present", c_uint8, 4), ("partition", PARTITION, 8))
+USED_READ = answer("card_used_read", 16 + HELD, ("found", c_uint8, 4), ("slot", c_uint32, 8), ("partition", PARTITION, 16))
 HEADER_READ = answer("gpt_header_read", 96, ("header", HEADER, 8))
 BLOCK = answer("gpt_block", 16, ("lba", c_uint64, 8))
 SUM = answer("gpt_sum", 8, ("sum", c_uint32, 4))
 HEADER_WRITTEN = answer("gpt_header_written", 104, ("bytes", c_uint64, 8), ("header", HEADER, 16))
-ENTRY_READ = answer("gpt_entry_read", 136, ("partition", PARTITION, 8))
+ENTRY_READ = answer("gpt_entry_read", 8 + HELD, ("partition", PARTITION, 8))
+FLAG_BITS = answer("gpt_flag_bits", 16, ("bits", c_uint64, 8))
 LENGTH = answer("gpt_length", 16, ("length", c_uint64, 8))
 PLACE = answer("gpt_place", 16, ("place", c_uint64, 8))
 MBR_READ = answer("gpt_mbr_read", 516, ("mbr", MBR, 4))
@@ -120,7 +138,7 @@ RECORD_SET = answer("gpt_record_set", 532, ("old", RECORD, 4), ("mbr", MBR, 20))
 BOOTCODE_READ = answer("gpt_bootcode_read", 444, ("bootcode", c_uint8 * 440, 4))
 SIGNATURE_READ = answer("gpt_signature_read", 8, ("disk_signature", c_uint8 * 4, 4))
 # Each row of a listing is written as bytes by the model; the structure is here so that its places are tried too.
-ROW = structure("card_row", 136, [("slot", c_uint64, 0), ("partition", PARTITION, 8)])
+ROW = structure("card_row", 136, [("slot", c_uint64, 0), ("entry", c_uint8 * 128, 8)])
 
 DECLARED = {
     "card_lay": (CARD_ANSWER, LENT, c_uint64, GUID),
@@ -145,8 +163,10 @@ DECLARED = {
     "gpt_settings_new": (SETTINGS, GUID),
     "gpt_build": (HEADER_READ, SETTINGS, c_uint64),
     "gpt_build_from_header": (HEADER_READ, HEADER, c_uint64),
+    "gpt_flags_of": (FLAGS, c_uint64),
+    "gpt_flags_bits": (FLAG_BITS, FLAGS),
     "gpt_entry_from_bytes": (ENTRY_READ, LENT),
-    "gpt_entry_to_bytes": (None, LENT, PARTITION),
+    "gpt_entry_to_bytes": (Number, LENT, PARTITION),
     "gpt_is_used": (c_uint8, PARTITION),
     "gpt_sectors_len": (LENGTH, PARTITION),
     "gpt_bytes_len": (LENGTH, PARTITION, c_uint64),
@@ -200,8 +220,9 @@ def native(ctype, value):
     if issubclass(ctype, ctypes.Array):
         return ctype(*(native(ctype._type_, item) for item in value)) if SHAPES.get(ctype._type_) else ctype(*value)
     if issubclass(ctype, ctypes.Structure):
-        values = value if SHAPES[ctype] else (value,)
-        return ctype(*(native(kind, item) for (_, kind), item in zip(ctype._fields_, values)))
+        fields = [(field, kind) for field, kind in ctype._fields_ if field[0] != "_"]
+        items = [getattr(value, field) for field, _ in fields] if SHAPES[ctype] else [value]
+        return ctype(**{field: native(kind, item) for (field, kind), item in zip(fields, items)})
     return value
 
 
@@ -212,20 +233,20 @@ def plain(ctype, value):
             return bytes(value)
         return tuple(plain(ctype._type_, item) for item in value)
     if issubclass(ctype, ctypes.Structure):
-        values = [plain(kind, getattr(value, field)) for field, kind in ctype._fields_]
-        return SHAPES[ctype](*values) if SHAPES[ctype] else tuple(values)
+        values = {field: plain(kind, getattr(value, field)) for field, kind in ctype._fields_ if field[0] != "_"}
+        return SHAPES[ctype](**values) if SHAPES[ctype] else tuple(values.values())
     return value
 
 
 def has_number(result):
     """Whether what a call comes back with is an answer, with the number first."""
-    return result is not None and issubclass(result, ctypes.Structure) and result._fields_[0][0] == "number"
+    return result is Number or issubclass(result, ctypes.Structure) and result._fields_[0][0] == "number"
 
 
 def answered(result, value):
     """The number and the other fields of what a call came back with."""
-    if result is None:
-        return 0, ()
+    if result is Number:
+        return value.value, ()
     if not issubclass(result, ctypes.Structure):
         return 0, (value,)
     values = tuple(plain(result, value))

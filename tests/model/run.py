@@ -127,7 +127,7 @@ class Rounds:
         blocks = list(range(first, first + 128))
         draw.random.shuffle(blocks)
         for slot, block in enumerate(blocks, 1):
-            record = draw.record()._replace(part_type_guid=GUID, part_guid=draw.any_guid())
+            record = draw.record()._replace(part_type_guid=GUID, part_guid=draw.any_guid(), reserved=0)
             record = record._replace(first_lba=block, last_lba=block)
             image = self.change(steps, image, "card_put", (b, slot, record))
         self.ask(steps, image, b, 40)

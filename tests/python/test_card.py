@@ -223,11 +223,47 @@ class Arguments(unittest.TestCase):
         image = filled()
         before = bytes(image)
         for call in (lambda: card.check(image, -1), lambda: card.check(image, 1 << 64), lambda: card.clear(image, 512, 1 << 32),
-                     lambda: card.write_payload(image, 512, 3, -1, b"x"), lambda: card.put(image, 512, 1, record(34, 1 << 64))):
+                     lambda: card.write_payload(image, 512, 3, -1, b"x"), lambda: card.put(image, 512, 1, record(34, 1 << 64)), lambda: card.Flags.of_bits(1 << 64),
+                     lambda: card.put(image, 512, 1, record(34, 34, flags=card.Flags(owner=1 << 16))),
+                     lambda: card.put(image, 512, 1, record(34, 34, flags=card.Flags(reserved=1 << 64)))):
             self.assertRaisesRegex(ValueError, "does not fit", call)
         self.assertRaises(TypeError, card.clear, image, 512, 3.0)
         self.assertRaises(TypeError, card.check, image, "512")
         self.assertEqual(image, before)
+
+
+class Flags(unittest.TestCase):
+    """Numbers from UEFI's table of attributes, with their names written down by hand."""
+
+    NAMED = {
+        0: card.Flags(),
+        1: card.Flags(required=True),
+        2: card.Flags(no_block_io=True),
+        4: card.Flags(legacy_bootable=True),
+        8: card.Flags(reserved=1),
+        1 << 47: card.Flags(reserved=1 << 44),
+        1 << 48: card.Flags(owner=1),
+        0x8000000000000001: card.Flags(required=True, owner=0x8000),
+        (1 << 64) - 1: card.Flags(True, True, True, (1 << 45) - 1, 0xFFFF),
+    }
+
+    def test_they_are_split_and_joined(self):
+        for bits, flags in self.NAMED.items():
+            self.assertEqual((card.Flags.of_bits(bits), flags.bits()), (flags, bits))
+
+    def test_a_reserved_part_that_is_too_wide_is_not_joined(self):
+        for reserved in (1 << 45, (1 << 64) - 1):
+            self.assertRaisesRegex(card.Refused, "refused 28, ReservedFlag: a flag that UEFI keeps reserved", card.Flags(reserved=reserved).bits)
+
+    def test_what_is_put_is_listed(self):
+        image = laid()
+        for flags in self.NAMED.values():
+            if not flags.reserved:
+                card.put(image, 512, 1, record(34, 34, flags=flags))
+                self.assertEqual(card.listing(image, 512)[0].record.flags, flags)
+
+    def test_a_number_is_no_flags(self):
+        self.assertRaisesRegex(TypeError, "Flags.of_bits", card.put, laid(), 512, 1, record(34, 34, flags=1))
 
 
 class Sums(unittest.TestCase):
@@ -290,6 +326,11 @@ class Refusals(unittest.TestCase):
         self.refused(22, 3, image, lambda image: card.put(image, 512, 1, record(41, 50)))
         self.refused(22, 3, image, lambda image: card.put(image, 512, 1, record(41, 50, guid=uuid.UUID(int=40))))
         self.refused(25, 3, image, lambda image: card.put(image, 512, 1, record(50, 50, guid=uuid.UUID(int=40))))
+        for reserved in (1, 2**45 - 1, 2**45, 2**64 - 1):
+            flags = card.Flags(reserved=reserved)
+            self.refused(28, 0, image, lambda image: card.put(image, 512, 1, record(50, 50, flags=flags)))
+            self.refused(25, 3, image, lambda image: card.put(image, 512, 1, record(50, 50, guid=uuid.UUID(int=40), flags=flags)))
+            self.refused(22, 3, image, lambda image: card.put(image, 512, 1, record(41, 50, flags=flags)))
         self.refused(18, 0, image, lambda image: card.clear(image, 512, 0))
         self.refused(23, 0, image, lambda image: card.write_payload(image, 512, 1, 0, b"x"))
         self.refused(24, 0, image, lambda image: card.write_payload(image, 512, 3, 1021, b"ridge"))

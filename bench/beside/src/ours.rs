@@ -24,8 +24,14 @@ pub fn card(b: u64, used: u32) -> Vec<u8> {
         let first = 2 + ARRAY / b + u64::from(slot - 1) * blocks;
         let mut name = [0; 36];
         name[..3].copy_from_slice(&[b'm', b'a', b'p'].map(u16::from));
-        let record =
-            Partition { part_type_guid: guid(5), part_guid: guid(slot), first_lba: first, last_lba: first + blocks - 1, flags: 0, name };
+        let record = Partition {
+            part_type_guid: guid(5),
+            part_guid: guid(slot),
+            first_lba: first,
+            last_lba: first + blocks - 1,
+            flags: flags_of(0),
+            name,
+        };
         assert_eq!(unsafe { card_put(img.as_mut_ptr(), IMAGE, b, slot, record) }.number, 0);
     }
     img
@@ -80,7 +86,7 @@ impl crate::Side for Side {
 
     fn store(&mut self, img: &mut [u8]) -> Said {
         let (h1, h2) = self.headers(img);
-        self.record.flags ^= 1;
+        self.record.flags.required ^= true;
         let (p, n, place) = (img.as_mut_ptr(), img.len(), u64::from(self.slot - 1));
         unsafe {
             assert_eq!(gpt_write_entry(p, n, self.record, place, h1.part_start, self.b, 128).number, 0);
@@ -92,7 +98,7 @@ impl crate::Side for Side {
     }
 
     fn put(&mut self, img: &mut [u8]) -> Said {
-        self.record.flags ^= 1;
+        self.record.flags.required ^= true;
         let done = unsafe { card_put(img.as_mut_ptr(), img.len(), self.b, self.slot, self.record) };
         assert_eq!(done.number, 0);
         0

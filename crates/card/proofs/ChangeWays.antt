@@ -8,7 +8,7 @@ use borrow.Author.Tests.{lt-ltb, le-ltb, ne-eqb, not-false}
 use lib.Dec.{eqb, ltb}
 use lib.ListN.{length}
 use Rattle.units.specs.declared.why.Why.{Why}
-use Rattle.units.specs.declared.Refusal.the-variants.{BadSlot, NilType, BadRange, OutsideUsable, Overlap, TwinGuid}
+use Rattle.units.specs.declared.Refusal.the-variants.{BadSlot, NilType, BadRange, OutsideUsable, Overlap, TwinGuid, ReservedFlag}
 use Rattle.units.specs.Answer.{accepted, plain, ofSlot, fine, when, orElse, pick, settle, Outcome, gives, Ends, ends, Answer}
 use Rattle.units.specs.Meanings.{verdictMeans, verdictOf}
 use Rattle.units.proofs.Chains.{here, on, found, past, else-first, else-second, none-when, Named, named-is, named-when, named-else, verdict-judged, settle-accepted, settle-refused, judged-some}
@@ -20,7 +20,7 @@ use Rattle.tables.specs.Entries.{entry, used, firstOf, lastOf, partGuidOf, over
 use Rattle.tables.specs.Check.{check, badSlot}
 use Rattle.tables.proofs.Orders.{split, lowest-is, lowest-none}
 use Rattle.checking.proofs.CheckWays.{named-check}
-use Rattle.card.specs.Calls.{recordCheck, firstOverlap, overlapCheck, twinCheck, entryCheck, putCheck}
+use Rattle.card.specs.Calls.{recordCheck, firstOverlap, overlapCheck, twinCheck, flagCheck, entryCheck, putCheck}
 
 -- ---- the record: 18, 19, 20, 21
 
@@ -83,25 +83,26 @@ twin-by {y = y} {i} {g = g} p q r = ap (λ (l : List ℕ). firstTwin l i g) p �
 
 -- ---- put's tests in their order
 
-module _ (B n : ℕ) (arr : List ℕ) (s : ℕ) (e : List ℕ) {w : Why} (g : w ≡ recordCheck B n s e) where
-  pub entry-wrong : (w .number ≡ 0 → ⊥) → w ≡ entryCheck B n arr s e
+module _ (B n : ℕ) (arr : List ℕ) (s : ℕ) (e : List ℕ) (reserved : ℕ) {w : Why} (g : w ≡ recordCheck B n s e) where
+  pub entry-wrong : (w .number ≡ 0 → ⊥) → w ≡ entryCheck B n arr s e reserved
   entry-wrong d = found _ g d
 
-  pub entry-slots : {o t r : Why} → w .number ≡ 0 → o ≡ overlapCheck arr (s - 1) e → t ≡ twinCheck arr (s - 1) e → r ≡ orElse o t → r ≡ entryCheck B n arr s e
-  entry-slots z a b q = past g z (q ∙ ap₂ orElse a b)
+  pub entry-slots : {o t f u r : Why} → w .number ≡ 0 → o ≡ overlapCheck arr (s - 1) e → t ≡ twinCheck arr (s - 1) e → f ≡ flagCheck reserved → u ≡ orElse t f → r ≡ orElse o u
+      → r ≡ entryCheck B n arr s e reserved
+  entry-slots z a b d p q = past g z (q ∙ ap₂ orElse a (p ∙ ap₂ orElse b d))
 
-module _ (B n : ℕ) (t : Tables) (s : ℕ) (e : List ℕ) {f : Why} (g : f ≡ check B n t) where
-  pub put-checked : (f .number ≡ 0 → ⊥) → f ≡ putCheck B n t s e
+module _ (B n : ℕ) (t : Tables) (s : ℕ) (e : List ℕ) (reserved : ℕ) {f : Why} (g : f ≡ check B n t) where
+  pub put-checked : (f .number ≡ 0 → ⊥) → f ≡ putCheck B n t s e reserved
   unfolding putCheck
   put-checked d = found _ g d
 
-  pub put-entry : {w : Why} → f .number ≡ 0 → w ≡ entryCheck B n (t .front .array) s e → w ≡ putCheck B n t s e
+  pub put-entry : {w : Why} → f .number ≡ 0 → w ≡ entryCheck B n (t .front .array) s e reserved → w ≡ putCheck B n t s e reserved
   unfolding putCheck
   put-entry o q = past g o q
 
-pub put-good : (B n : ℕ) (t : Tables) (s : ℕ) (e : List ℕ) → putCheck B n t s e .number ≡ 0 → (check B n t .number ≡ 0) × (badSlot s ≡ false)
+pub put-good : (B n : ℕ) (t : Tables) (s : ℕ) (e : List ℕ) (reserved : ℕ) → putCheck B n t s e reserved .number ≡ 0 → (check B n t .number ≡ 0) × (badSlot s ≡ false)
 unfolding putCheck
-put-good B n t s e h =
+put-good B n t s e reserved h =
     (else-first (check B n t) _ h, record-good B n s e (else-first (recordCheck B n s e) _ (else-second (check B n t) _ h)) .0)
 
 named-record : (B n s : ℕ) (e : List ℕ) → Named (recordCheck B n s e)
@@ -112,15 +113,16 @@ named-record B n s e =
     (named-else (when (not (used e)) (plain 19)) _ (named-when (not (used e)) _ (named-is NilType))
     (named-else (when (ltb (lastOf e) (firstOf e)) (plain 20)) _ (named-when (ltb (lastOf e) (firstOf e)) _ (named-is BadRange)) (named-when out _ (named-is OutsideUsable))))
 
-pub named-put : (B n : ℕ) (t : Tables) (s : ℕ) (e : List ℕ) → Named (putCheck B n t s e)
-unfolding putCheck overlapCheck twinCheck
-named-put B n t s e =
+pub named-put : (B n : ℕ) (t : Tables) (s : ℕ) (e : List ℕ) (reserved : ℕ) → Named (putCheck B n t s e reserved)
+unfolding putCheck overlapCheck twinCheck flagCheck
+named-put B n t s e reserved =
     let j : ℕ = firstOverlap (t .front .array) (s - 1) e in
     let k : ℕ = firstTwin (t .front .array) (s - 1) (partGuidOf e) in
     named-else (check B n t) _ (named-check B n t)
     (named-else (recordCheck B n s e) _ (named-record B n s e)
     (named-else (when (ltb j 128) (ofSlot 22 (j + 1))) _ (named-when (ltb j 128) _ (named-is (Overlap (record { 0 = j + 1 }))))
-    (named-when (ltb k 128) _ (named-is (TwinGuid (record { 0 = k + 1 }))))))
+    (named-else (when (ltb k 128) (ofSlot 25 (k + 1))) _ (named-when (ltb k 128) _ (named-is (TwinGuid (record { 0 = k + 1 }))))
+    (named-when (not (eqb reserved 0)) _ (named-is ReservedFlag)))))
 
 -- ---- the ends of put and clear
 

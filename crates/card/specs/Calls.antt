@@ -1,5 +1,5 @@
 -- What the card calls answer, and the image that they leave. What a call refuses by is a function of the image's length, the block size and the two tables.
--- From document 01, "The card calls": lay, put, clear, payload write; 25 from document 02, 3/13. Assumes nothing.
+-- From document 01, "The card calls": lay, put, clear, payload write; 25 from document 02, 3/13; 28 from 7/13. Assumes nothing.
 use mathlib.Core.Bool.{false, not, _||_}
 use mathlib.Core.List.{List}
 use Prim.Native.Nat.{ℕ, _+_, _*_, _-_}
@@ -12,7 +12,7 @@ use Rattle.units.specs.declared.why.Why.{Why}
 use Rattle.units.specs.Answer.{Answer, plain, ofSlot, when, orElse, judged, pick, Outcome, settle}
 use Rattle.units.specs.Guids.{guidBytes}
 use Rattle.partition.specs.declared.Partition.{Partition}
-use Rattle.partition.specs.Format.{entryBytes, named}
+use Rattle.partition.specs.Format.{entryBytes, tidied}
 use Rattle.mbr.specs.Format.{mbrBytes, fresh}
 use Rattle.tables.specs.Checks.{lowest}
 use Rattle.tables.specs.Places.{blocks, firstUsable, lastUsable}
@@ -53,21 +53,29 @@ overlapCheck arr k e = when (ltb (firstOverlap arr k e) 128) (ofSlot 22 (firstOv
 unfoldable pub twinCheck : List ℕ → ℕ → List ℕ → Why
 twinCheck arr k e = when (ltb (firstTwin arr k (partGuidOf e)) 128) (ofSlot 25 (firstTwin arr k (partGuidOf e) + 1))
 
--- put's tests of a record and of the other slots of an array: 22 over all of them, and then 25
-abbrev pub entryCheck : ℕ → ℕ → List ℕ → ℕ → List ℕ → Why
-entryCheck B n arr s e = orElse (recordCheck B n s e) (orElse (overlapCheck arr (s - 1) e) (twinCheck arr (s - 1) e))
+-- 28 if the reserved part of a record's flags is not zero
+unfoldable pub flagCheck : ℕ → Why
+flagCheck reserved = when (not (eqb reserved 0)) (plain 28)
+
+-- put's tests of a record and of the other slots of an array: 22 over all of them, then 25, and then 28
+abbrev pub entryCheck : ℕ → ℕ → List ℕ → ℕ → List ℕ → ℕ → Why
+entryCheck B n arr s e reserved =
+    orElse (recordCheck B n s e)
+    (orElse (overlapCheck arr (s - 1) e)
+    (orElse (twinCheck arr (s - 1) e)
+    (flagCheck reserved)))
 
 -- both after the check
-unfoldable pub putCheck : ℕ → ℕ → Tables → ℕ → List ℕ → Why
-putCheck B n t s e = orElse (check B n t) (entryCheck B n (t .front .array) s e)
+unfoldable pub putCheck : ℕ → ℕ → Tables → ℕ → List ℕ → ℕ → Why
+putCheck B n t s e reserved = orElse (check B n t) (entryCheck B n (t .front .array) s e reserved)
 
 -- the tables with one entry changed, under lay's headers with the GUID kept
 unfoldable pub changed : ℕ → ℕ → Tables → ℕ → List ℕ → Tables
 changed B n t s e = cardOf B n (guidOf (t .front)) (setEntry (t .front .array) (s - 1) e)
 
-unfoldable pub putAt : ℕ → ℕ → List ℕ → ℕ → List ℕ → Outcome (Answer Unit)
-putAt B n xs s e =
-    settle (putCheck B n (tablesAt B n xs) s e) tt xs (withTablesAt B n xs (changed B n (tablesAt B n xs) s e))
+unfoldable pub putAt : ℕ → ℕ → List ℕ → ℕ → List ℕ → ℕ → Outcome (Answer Unit)
+putAt B n xs s e reserved =
+    settle (putCheck B n (tablesAt B n xs) s e reserved) tt xs (withTablesAt B n xs (changed B n (tablesAt B n xs) s e))
 
 unfoldable pub clearAt : ℕ → ℕ → List ℕ → ℕ → Outcome (Answer Unit)
 clearAt B n xs s =
@@ -103,15 +111,15 @@ payloadAt B n xs s p ys =
 
 -- ---- the public calls
 
--- what put stores: the record's 128 bytes, the units of its name after the first zero cleared
+-- what put tests and stores: the record's 128 bytes, the units of its name after the first zero cleared, and without the reserved flags, which it refuses
 abbrev pub putBytes : Partition → List ℕ
-putBytes p = entryBytes (named p)
+putBytes p = entryBytes (tidied p)
 
 abbrev pub layOutcome : ℕ → List ℕ → Guid → Outcome (Answer Unit)
 layOutcome B xs g = layAt B (length xs) xs (guidBytes g)
 
 abbrev pub putOutcome : ℕ → List ℕ → ℕ → Partition → Outcome (Answer Unit)
-putOutcome B xs s p = putAt B (length xs) xs s (putBytes p)
+putOutcome B xs s p = putAt B (length xs) xs s (putBytes p) (p .flags .reserved)
 
 abbrev pub clearOutcome : ℕ → List ℕ → ℕ → Outcome (Answer Unit)
 clearOutcome B xs s = clearAt B (length xs) xs s

@@ -22,7 +22,7 @@ ghost use Rattle.crc32.specs.Rows.{Rows};
 ghost use Rattle.tables.specs.Lens.{Front, sideOf, copyIn, tables, withTables};
 ghost use Rattle.tables.specs.Entries.{setEntry, used, firstOf, lastOf};
 ghost use Rattle.tables.specs.Check.{roomCheck, tableCheck, guidOf, check, badSlot};
-ghost use Rattle.card.specs.Calls.{recordCheck, firstOverlap, overlapCheck, twinCheck, entryCheck, putCheck, changedBytes, changed};
+ghost use Rattle.card.specs.Calls.{recordCheck, firstOverlap, overlapCheck, twinCheck, flagCheck, entryCheck, putCheck, changedBytes, changed};
 
 // 18 no such slot, 19 nil type, 20 last before first, 21 outside the usable blocks.
 fn record_check(e: &[u8], slot: Slot, len: usize, b: u64) -> Why
@@ -116,10 +116,27 @@ fn or_else(one: Why, two: Why) -> Why
     two
 }
 
-// What put tests after the check: the record, then 22 over all slots, then 25.
-pub fn entry_check<'a>(front: &'a [u8], len: usize, b: u64, slot: Slot, e: &'a [u8]) -> Why
+// 28 if the reserved part of a record's flags is not zero.
+fn flag_check(reserved: u64) -> Why
+    ensures { λ r. ⌜ r ≡ flagCheck reserved ⌝ }
+{
+    if reserved != 0 {
+        return why::RESERVED_FLAG;
+    }
+    why::FINE
+}
+
+// What put tests after the check: the record, then 22 over all slots, then 25, then 28. `reserved` is the reserved part of the record's flags, which e leaves out.
+pub fn entry_check<'a>(
+    front: &'a [u8],
+    len: usize,
+    b: u64,
+    slot: Slot,
+    e: &'a [u8],
+    reserved: u64,
+) -> Why
     requires { ⌜ (roomCheck b len .number ≡ 0) × (length (now front) ≡ b + 16384) × (length (now e) ≡ 128) ⌝ }
-    ensures { λ r. ⌜ r ≡ entryCheck b len (copyIn b Front (now (front .entry)) .array) (slot .0) (now (e .entry)) ⌝ }
+    ensures { λ r. ⌜ r ≡ entryCheck b len (copyIn b Front (now (front .entry)) .array) (slot .0) (now (e .entry)) reserved ⌝ }
 {
     let wrong = record_check(e, slot, len, b);
     if wrong.number != 0 {
@@ -127,20 +144,34 @@ pub fn entry_check<'a>(front: &'a [u8], len: usize, b: u64, slot: Slot, e: &'a [
     }
     let overlap = overlap_check(front, b, slot, e);
     let twin = twin_check(front, b, slot, e);
-    or_else(overlap, twin)
+    or_else(overlap, or_else(twin, flag_check(reserved)))
 }
 
 // All that put tests, of an image.
-pub fn put_check<'a>(t: &'a [u32; 4096], img: &'a [u8], b: u64, slot: Slot, e: &'a [u8]) -> Why
+pub fn put_check<'a>(
+    t: &'a [u32; 4096],
+    img: &'a [u8],
+    b: u64,
+    slot: Slot,
+    e: &'a [u8],
+    reserved: u64,
+) -> Why
     requires { ⌜ Rows 16 (now t) × (length (now e) ≡ 128) ⌝ }
-    ensures { λ r. ⌜ r ≡ putCheck b (length (now (img .entry))) (tables b (now (img .entry))) (slot .0) (now (e .entry)) ⌝ }
+    ensures { λ r. ⌜ r ≡ putCheck b (length (now (img .entry))) (tables b (now (img .entry))) (slot .0) (now (e .entry)) reserved ⌝ }
 {
     let found = checking::inner::check_with(t, img, b);
     if found.number != 0 {
         return found;
     }
     let size = b as usize;
-    entry_check(&img[size..size + (size + 16384)], img.len(), b, slot, e)
+    entry_check(
+        &img[size..size + (size + 16384)],
+        img.len(),
+        b,
+        slot,
+        e,
+        reserved,
+    )
 }
 
 // The disk GUID in a copy's header.

@@ -35,13 +35,14 @@ pub fn lay(img: &mut [u8], b: u64, guid: Guid) -> Verdict
 }
 
 // Puts a record into a slot of both tables, the GUID kept: after the check 18 no such slot, 19 nil type, 20 last before first, 21 outside the usable blocks,
-// 22 with the lowest other slot that shares a block, 25 with the lowest other slot that has the partition GUID.
+// 22 with the lowest other slot that shares a block, 25 with the lowest other slot that has the partition GUID, 28 a reserved flag.
 pub fn put(img: &mut [u8], b: u64, slot: Slot, p: Partition) -> Verdict
     ensures { λ r. ⌜ Ends (putOutcome b (now (img .entry)) (slot .0) p) (verdictMeans r) (now (img .exit)) ⌝ }
 {
-    let e = partition::inner::named_bytes(p);
+    let e = partition::inner::tidied_bytes(p);
+    let reserved = p.flags.reserved;
     let t = crc32::inner::table();
-    let found = changing::put_check(&t, img, b, slot, &e);
+    let found = changing::put_check(&t, img, b, slot, &e, reserved);
     if found.number != 0 {
         return found.verdict();
     }

@@ -33,6 +33,7 @@ use Rattle.card_c.specs.declared.headers.GptHeaderWritten.{GptHeaderWrit
 use Rattle.card_c.specs.declared.headers.GptSum.{GptSum}
 use Rattle.card_c.specs.declared.headers.GptBlock.{GptBlock}
 use Rattle.card_c.specs.declared.building.GptSettings.{GptSettings}
+use Rattle.card_c.specs.declared.entries.GptFlagBits.{GptFlagBits}
 use Rattle.card_c.specs.declared.entries.GptLength.{GptLength}
 use Rattle.card_c.specs.declared.entries.GptPlace.{GptPlace}
 use Rattle.card_c.specs.declared.entries.GptEntryRead.{GptEntryRead}
@@ -135,6 +136,9 @@ builderOf s =
     withPrimary (withPartSize (withNumParts blocks (s .«num_parts»)) (s .«part_size»)) (s .primary)
 
 -- ---- entries
+
+abbrev pub bitsToC : Answer ℕ → GptFlagBits
+bitsToC a = crossed (λ k n. record { number = k; bits = n }) 0 a
 
 abbrev pub lengthToC : Answer ℕ → GptLength
 lengthToC a = crossed (λ k n. record { number = k; length = n }) 0 a

@@ -37,7 +37,7 @@ pub extern "C" fn card_check(img: &[u8], b: u64) -> CardAnswer
     answers::answer_to_c(card::check(img, b))
 }
 
-// Puts a record into a slot of both tables: 18, 19, 20, 21, 22 after the check.
+// Puts a record into a slot of both tables: 18, 19, 20, 21, 22, 25, 28 after the check.
 #[no_mangle]
 pub extern "C" fn card_put(img: &mut [u8], b: u64, slot: u32, partition: Partition) -> CardAnswer
     ensures { λ r. ⌜ Ends (outcomeToC answerToC (putOutcome b (now (img .entry)) slot partition)) r (now (img .exit)) ⌝ }

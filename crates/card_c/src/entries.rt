@@ -5,6 +5,8 @@ use crate::answers::GptNext;
 use crate::answers::GptSlotRead;
 use crate::answers::GptStored;
 use header::Header;
+use partition::FlagBits;
+use partition::Flags;
 use partition::Length;
 use partition::Partition;
 use units::Lba;
@@ -14,18 +16,25 @@ ghost use mathlib.Core.Path.{_≡_};
 ghost use mathlib.Core.Bool.{not};
 ghost use Prim.Native.Nat.{_/_};
 ghost use lib.ListN.{length};
-ghost use Rattle.units.specs.Answer.{Ends};
+ghost use Rattle.units.specs.Answer.{numberOf, Ends};
 ghost use Rattle.units.specs.Guids.{isNil};
 ghost use Rattle.units.specs.Places.{placeOf};
 ghost use Rattle.units.specs.Meanings.{placedMeans};
-ghost use Rattle.partition.specs.Format.{entryBytes, fitted};
+ghost use Rattle.partition.specs.Flags.{flagsOf, bitsOf};
 ghost use Rattle.partition.specs.Lengths.{sectorsLen, bytesLen};
-ghost use Rattle.partition.specs.Device.{entryStored, zerosStored};
+ghost use Rattle.partition.specs.Device.{entryWritten, entryStored, zerosStored};
 ghost use Rattle.partition.specs.Array.{partitionRead, partitionCount, partitionAfter};
-ghost use Rattle.partition.specs.Meanings.{lengthMeans};
+ghost use Rattle.partition.specs.Meanings.{bitsMeans, lengthMeans};
 ghost use Rattle.rows.specs.Row.{partitionsRead};
 ghost use Rattle.rows.specs.RowBytes.{bytesOutcome};
-ghost use Rattle.card_c.specs.Exports.{outcomeToC, storedToC, countToC, nextToC, heldToC, lengthToC, placeToC, entryToC, entryParsed};
+ghost use Rattle.card_c.specs.Exports.{outcomeToC, storedToC, countToC, nextToC, heldToC, bitsToC, lengthToC, placeToC, entryToC, entryParsed};
+
+// The 64 bits of flags.
+#[repr(C)]
+pub struct GptFlagBits {
+    pub number: u32,
+    pub bits: u64,
+}
 
 // How many blocks or bytes.
 #[repr(C)]
@@ -45,6 +54,18 @@ pub struct GptPlace {
 pub struct GptEntryRead {
     pub number: u32,
     pub partition: Partition,
+}
+
+fn bits_to_c(r: FlagBits) -> GptFlagBits
+    ensures { λ o. ⌜ o ≡ bitsToC (bitsMeans r) ⌝ }
+{
+    match r {
+        FlagBits::Bits(n) => GptFlagBits { number: 0, bits: n },
+        FlagBits::Refused(w) => GptFlagBits {
+            number: w.number(),
+            bits: 0,
+        },
+    }
 }
 
 fn length_to_c(r: Length) -> GptLength
@@ -77,6 +98,22 @@ fn place_to_c(r: Placed) -> GptPlace
     }
 }
 
+// The flags in 64 bits.
+#[no_mangle]
+pub extern "C" fn gpt_flags_of(bits: u64) -> Flags
+    ensures { λ r. ⌜ r ≡ flagsOf bits ⌝ }
+{
+    Flags::of_bits(bits)
+}
+
+// The 64 bits of flags: 28.
+#[no_mangle]
+pub extern "C" fn gpt_flags_bits(f: Flags) -> GptFlagBits
+    ensures { λ r. ⌜ r ≡ bitsToC (bitsOf f) ⌝ }
+{
+    bits_to_c(f.bits())
+}
+
 // The record in the first 128 of some bytes, its name's units after the first zero cleared: 2.
 #[no_mangle]
 pub extern "C" fn gpt_entry_from_bytes(bytes: &[u8]) -> GptEntryRead
@@ -94,12 +131,12 @@ pub extern "C" fn gpt_entry_from_bytes(bytes: &[u8]) -> GptEntryRead
     }
 }
 
-// The record's 128 bytes, cut or filled with zeros to the length of out.
+// The record's 128 bytes, cut or filled with zeros to the length of out: 28 whatever that is.
 #[no_mangle]
-pub extern "C" fn gpt_entry_to_bytes(out: &mut [u8], p: Partition)
-    ensures { λ _. ⌜ now (out .exit) ≡ fitted (length (now (out .entry))) (entryBytes p) ⌝ }
+pub extern "C" fn gpt_entry_to_bytes(out: &mut [u8], p: Partition) -> u32
+    ensures { λ r. ⌜ Ends (outcomeToC numberOf (entryWritten (now (out .entry)) p)) r (now (out .exit)) ⌝ }
 {
-    p.write_bytes(out);
+    answers::number_of(p.write_bytes(out))
 }
 
 // Whether the type is not all zero.
@@ -134,7 +171,7 @@ pub extern "C" fn gpt_bytes_start(p: Partition, b: u64) -> GptPlace
     place_to_c(p.bytes_start(b))
 }
 
-// Stores a record as entry `index` of an array that starts at a block: 1, 7, 3, 2.
+// Stores a record as entry `index` of an array that starts at a block: 1, 7, 28, 3, 2.
 #[no_mangle]
 pub extern "C" fn gpt_write_entry(
     img: &mut [u8],

@@ -3,6 +3,7 @@
 use crate::bytes;
 use crate::say;
 use crate::script;
+use partition::Flags;
 use partition::NextPartition;
 use partition::Partition;
 use partition::PartitionCount;
@@ -37,7 +38,7 @@ fn record(part_type_guid: Guid, line: &[u8]) -> Partition {
         part_guid: some_guid(script::byte(line, 0)),
         first_lba: script::block(line, 1),
         last_lba: script::block(line, 2),
-        flags: script::number(line, 3),
+        flags: Flags::of_bits(script::number(line, 3)),
         name: script::name(line),
     }
 }
@@ -54,14 +55,14 @@ fn given_guid(last: u8) -> Guid {
     some_guid(last)
 }
 
-// A put of a record with another slot's GUID, or the nil one: the GUID's last byte, slot, first and last block.
+// A put of a record with another slot's GUID, or the nil one: the GUID's last byte, slot, first and last block, flags.
 fn put_bearing(img: &mut [u8], b: u64, line: &[u8]) -> Verdict {
     let p = Partition {
         part_type_guid: basic_data(),
         part_guid: given_guid(script::byte(line, 0)),
         first_lba: script::block(line, 2),
         last_lba: script::block(line, 3),
-        flags: 0,
+        flags: Flags::of_bits(script::number(line, 4)),
         name: [0; 36],
     };
     card::put(img, b, script::slot(line, 1), p)
@@ -152,9 +153,19 @@ fn units_of(name: [u16; 36]) {
     }
 }
 
+// Flags by their names.
+fn named_flags(f: Flags) {
+    say::where_so(f.required, b", required");
+    say::where_so(f.no_block_io, b", no block I/O");
+    say::where_so(f.legacy_bootable, b", legacy bootable");
+    say::number(b", reserved ", f.reserved);
+    say::number(b", owner ", f.owner as u64);
+}
+
 fn whole(p: Partition) {
     blocks(b": blocks ", p);
-    say::number(b", flags ", p.flags);
+    let flags = p.flags;
+    named_flags(flags);
     say::text(b", name");
     let name = p.name;
     units_of(name);

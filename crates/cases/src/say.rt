@@ -21,6 +21,13 @@ pub fn start(b: u64, line: &[u8]) {
     text(line);
 }
 
+// A text where something is so.
+pub fn where_so(so: bool, s: &[u8]) {
+    if so {
+        text(s);
+    }
+}
+
 // A space and a unit of a name, in hexadecimal digits.
 pub fn unit(u: u16) {
     text(b" ");

@@ -1,6 +1,8 @@
 // Doors: the public calls of partition once more, in one line each, under their own contracts word for word.
 // Nobody calls them. They are there to be changed: each edit under must-fail puts an impostor behind a door, and the door's contract must refuse it.
 use header::Header;
+use partition::FlagBits;
+use partition::Flags;
 use partition::Length;
 use partition::NextPartition;
 use partition::Partition;
@@ -17,10 +19,23 @@ ghost use mathlib.Core.Bool.{not};
 ghost use Rattle.units.specs.Guids.{isNil};
 ghost use Rattle.units.specs.Places.{placeOf};
 ghost use Rattle.units.specs.Meanings.{placedMeans};
+ghost use Rattle.partition.specs.Flags.{flagsOf, bitsOf};
 ghost use Rattle.partition.specs.Format.{entryAt, zeroPartition};
 ghost use Rattle.partition.specs.Lengths.{sectorsLen, bytesLen};
 ghost use Rattle.partition.specs.Array.{partitionRead, partitionCount, partitionAfter, readingOf};
-ghost use Rattle.partition.specs.Meanings.{lengthMeans, readMeans, countMeans, nextMeans};
+ghost use Rattle.partition.specs.Meanings.{bitsMeans, lengthMeans, readMeans, countMeans, nextMeans};
+
+pub fn of_bits(bits: u64) -> Flags
+    ensures { λ r. ⌜ r ≡ flagsOf bits ⌝ }
+{
+    Flags::of_bits(bits)
+}
+
+pub fn bits(f: Flags) -> FlagBits
+    ensures { λ r. ⌜ bitsMeans r ≡ bitsOf f ⌝ }
+{
+    f.bits()
+}
 
 pub fn zero() -> Partition
     ensures { λ r. ⌜ r ≡ zeroPartition ⌝ }

@@ -10,17 +10,15 @@ use units::Lba;
 use units::Number;
 use units::Refusal;
 use units::Stored;
-ghost use mathlib.Core.Path.{_≡_};
-ghost use lib.ListN.{length};
+use units::Verdict;
 ghost use Rattle.units.specs.Answer.{Ends};
 ghost use Rattle.units.specs.Numbers.{bytesIn, valueIn, numberStored};
 ghost use Rattle.units.specs.Guids.{guidStored};
-ghost use Rattle.units.specs.Meanings.{storedMeans};
+ghost use Rattle.units.specs.Meanings.{storedMeans, verdictMeans};
 ghost use Rattle.header.specs.Writing.{primaryWritten, backupWritten};
 ghost use Rattle.header.specs.Meanings.{writtenMeans};
 ghost use Rattle.mbr.specs.Storing.{wholeStored, tailStored, bytesStored};
-ghost use Rattle.partition.specs.Format.{entryBytes, fitted};
-ghost use Rattle.partition.specs.Device.{entryStored, zerosStored};
+ghost use Rattle.partition.specs.Device.{entryWritten, entryStored, zerosStored};
 
 pub fn store_number(s: &mut [u8], at: BytePlace, x: Number) -> Stored
     ensures { λ r. ⌜ Ends (numberStored (now (s .entry)) (at .0) (bytesIn x) (valueIn x)) (storedMeans r) (now (s .exit)) ⌝ }
@@ -70,8 +68,8 @@ pub fn write_disk_signature(img: &mut [u8], disk_signature: &[u8; 4]) -> Stored
     mbr::write_disk_signature(img, disk_signature)
 }
 
-pub fn write_bytes(p: Partition, out: &mut [u8])
-    ensures { λ _. ⌜ now (out .exit) ≡ fitted (length (now (out .entry))) (entryBytes p) ⌝ }
+pub fn write_bytes(p: Partition, out: &mut [u8]) -> Verdict
+    ensures { λ r. ⌜ Ends (entryWritten (now (out .entry)) p) (verdictMeans r) (now (out .exit)) ⌝ }
 {
     p.write_bytes(out)
 }

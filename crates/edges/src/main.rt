@@ -4,6 +4,7 @@ use builder::HeaderBuilt;
 use libc::STDOUT_FILENO;
 use mbr::ProtectiveMbr;
 use mbr::RecordRead;
+use partition::Flags;
 use partition::Length;
 use partition::Partition;
 use units::BlockFound;
@@ -90,7 +91,7 @@ fn blocks(first: u64, last: u64) -> Partition {
         part_guid: Guid::nil(),
         first_lba: Lba(first),
         last_lba: Lba(last),
-        flags: 0,
+        flags: Flags::of_bits(0),
         name: [0; 36],
     }
 }

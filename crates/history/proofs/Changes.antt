@@ -5,8 +5,8 @@ use mathlib.Core.Bool.{Bool, true, false, not, _||_}
 use mathlib.Core.List.{List}
 use Prim.Native.Nat.{ℕ, _+_, _-_, _^_, _≤_, _<_}
 use native.Mathlib.Omega.{arith}
-use borrow.Author.Tests.{not-false, ltb-false, le-ltb}
-use lib.Dec.{ltb}
+use borrow.Author.Tests.{not-false, ltb-false, le-ltb, eqb-true, eq-eqb}
+use lib.Dec.{eqb, ltb}
 use lib.ListN.{length, getD, List·getD-eq-default}
 use Rattle.units.specs.declared.Guid.{Guid}
 use Rattle.units.specs.Guids.{guidBytes}
@@ -18,13 +18,13 @@ use Rattle.tables.specs.Places.{firstUsable, lastUsable}
 use Rattle.tables.specs.Lens.{Tables, tablesAt, withTablesAt}
 use Rattle.tables.specs.Entries.{zeros, entry, setEntry, used, firstOf, lastOf, partGuidOf, overlaps, bears, firstTwin}
 use Rattle.tables.specs.Check.{guidOf, check, badSlot, slotCheck}
-use Rattle.card.specs.Calls.{firstOverlap, changed, putCheck, putAt, clearAt, recordCheck, overlapCheck, twinCheck}
+use Rattle.card.specs.Calls.{firstOverlap, changed, putCheck, putAt, clearAt, recordCheck, overlapCheck, twinCheck, flagCheck}
 use Rattle.tables.proofs.Orders.{split, or-left, or-right, neither, others-at, others-of}
 use Rattle.tables.proofs.EntryLaws.{length-zeros, getD-zeros, length-set-entry, entry-zeros, Inside, ok-of, ok-zeros, unused-zeros, overlaps-comm, overlaps-zeros, bears-unused, twins-unused, twins-alone, Entries, entries-set}
 use Rattle.history.proofs.State.{held-back, State, state-check, state-front, write-state, accepted-image}
 
 -- what an accepted put says
-pub record Puts (B n : ℕ) (t : Tables) (s : ℕ) (e : List ℕ) : Type 0 where
+pub record Puts (B n : ℕ) (t : Tables) (s : ℕ) (e : List ℕ) (reserved : ℕ) : Type 0 where
   pub card : check B n t .number ≡ 0
   pub one : 1 ≤ s
   pub slot : s - 1 < 128
@@ -32,10 +32,11 @@ pub record Puts (B n : ℕ) (t : Tables) (s : ℕ) (e : List ℕ) : Type 0 where
   pub inside : Inside B n e
   pub free : (j : ℕ) → j < 128 → (j ≡ s - 1 → ⊥) → overlaps e (entry (t .front .array) j) ≡ false
   pub alone : (j : ℕ) → j < 128 → (j ≡ s - 1 → ⊥) → bears (partGuidOf e) (entry (t .front .array) j) ≡ false
+  pub flags : reserved ≡ 0
 
-pub put-ok : (B n : ℕ) (t : Tables) (s : ℕ) (e : List ℕ) → putCheck B n t s e .number ≡ 0 → Puts B n t s e
-unfolding putCheck recordCheck overlapCheck twinCheck firstOverlap firstTwin
-put-ok B n t s e h =
+pub put-ok : (B n : ℕ) (t : Tables) (s : ℕ) (e : List ℕ) (reserved : ℕ) → putCheck B n t s e reserved .number ≡ 0 → Puts B n t s e reserved
+unfolding putCheck recordCheck overlapCheck twinCheck flagCheck firstOverlap firstTwin
+put-ok B n t s e reserved h =
     let h1 = else-second (check B n t) _ h in
     let r = else-first (recordCheck B n s e) _ h1 in
     let c18 : badSlot s ≡ false = none-when _ (plain 18) tt (else-first (when (badSlot s) (plain 18)) _ r) in
@@ -48,7 +49,9 @@ put-ok B n t s e h =
     let k : ℕ = firstTwin (t .front .array) (s - 1) (partGuidOf e) in
     let h4 = else-second (recordCheck B n s e) _ h1 in
     let c22 : ltb (firstOverlap (t .front .array) (s - 1) e) 128 ≡ false = none-when _ (ofSlot 22 (j + 1)) tt (else-first (when (ltb j 128) (ofSlot 22 (j + 1))) _ h4) in
-    let c25 : ltb (firstTwin (t .front .array) (s - 1) (partGuidOf e)) 128 ≡ false = none-when _ (ofSlot 25 (k + 1)) tt (else-second (when (ltb j 128) (ofSlot 22 (j + 1))) _ h4) in
+    let h5 = else-second (when (ltb j 128) (ofSlot 22 (j + 1))) _ h4 in
+    let c25 : ltb (firstTwin (t .front .array) (s - 1) (partGuidOf e)) 128 ≡ false = none-when _ (ofSlot 25 (k + 1)) tt (else-first (when (ltb k 128) (ofSlot 25 (k + 1))) _ h5) in
+    let c28 : not (eqb reserved 0) ≡ false = none-when _ (plain 28) tt (else-second (when (ltb k 128) (ofSlot 25 (k + 1))) _ h5) in
     record {
       card = else-first (check B n t) _ h;
       one = slot-ok s c18 .0;
@@ -61,12 +64,13 @@ put-ok B n t s e h =
       };
       free = others-at 128 (s - 1) (λ (j : ℕ). overlaps e (entry (t .front .array) j)) (ltb-false _ _ c22);
       alone = others-at 128 (s - 1) (λ (j : ℕ). bears (partGuidOf e) (entry (t .front .array) j)) (ltb-false _ _ c25);
+      flags = eqb-true reserved 0 (not-false _ c28);
     }
 
--- and whatever it says makes a put accepted: 18 to 22 and 25 are given exactly when they apply
-pub ok-put : (B n : ℕ) (t : Tables) (s : ℕ) (e : List ℕ) → Puts B n t s e → putCheck B n t s e .number ≡ 0
-unfolding putCheck recordCheck overlapCheck twinCheck firstOverlap firstTwin
-ok-put B n t s e p =
+-- and whatever it says makes a put accepted: 18 to 22, 25 and 28 are given exactly when they apply
+pub ok-put : (B n : ℕ) (t : Tables) (s : ℕ) (e : List ℕ) (reserved : ℕ) → Puts B n t s e reserved → putCheck B n t s e reserved .number ≡ 0
+unfolding putCheck recordCheck overlapCheck twinCheck flagCheck firstOverlap firstTwin
+ok-put B n t s e reserved p =
     let i = p .inside in
     let m : firstOverlap (t .front .array) (s - 1) e ≡ 128 = others-of 128 (s - 1) (λ (j : ℕ). overlaps e (entry (t .front .array) j)) (p .free) in
     let o : firstTwin (t .front .array) (s - 1) (partGuidOf e) ≡ 128 = others-of 128 (s - 1) (λ (j : ℕ). bears (partGuidOf e) (entry (t .front .array) j)) (p .alone) in
@@ -79,7 +83,8 @@ ok-put B n t s e p =
     (else-none _ _ (when-none _ (plain 20) (le-ltb _ _ (i .order)))
     (when-none _ (plain 21) (neither (le-ltb _ _ (i .low)) (le-ltb _ _ (i .high)))))))
     (else-none _ _ (when-none (ltb (firstOverlap (t .front .array) (s - 1) e) 128) (ofSlot 22 (j + 1)) (le-ltb (firstOverlap (t .front .array) (s - 1) e) 128 (omega (arith, m))))
-    (when-none (ltb (firstTwin (t .front .array) (s - 1) (partGuidOf e)) 128) (ofSlot 25 (k + 1)) (le-ltb (firstTwin (t .front .array) (s - 1) (partGuidOf e)) 128 (omega (arith, o))))))
+    (else-none _ _ (when-none (ltb (firstTwin (t .front .array) (s - 1) (partGuidOf e)) 128) (ofSlot 25 (k + 1)) (le-ltb (firstTwin (t .front .array) (s - 1) (partGuidOf e)) 128 (omega (arith, o))))
+    (when-none (not (eqb reserved 0)) (plain 28) (ap not (eq-eqb reserved 0 (p .flags)))))))
 
 small-zeros : (n : ℕ) → Small (zeros n)
 small-zeros n i =
@@ -87,11 +92,11 @@ small-zeros n i =
     (λ p. let z : getD (zeros n) i 0 ≡ 0 = List·getD-eq-default (zeros n) 0 (omega (arith, length-zeros n)) in omega arith)
     (λ p. omega (arith, getD-zeros n i p))
 
--- so a freshly laid card takes any used entry inside its usable blocks, in any slot
+-- so a freshly laid card takes any used entry inside its usable blocks with no reserved flag, in any slot
 pub fresh-put : (B n : ℕ) (g : Guid) (xs : List ℕ) (s : ℕ) (e : List ℕ) → State B n (guidBytes g) (zeros 16384) xs → n < 2 ^ 64 → GuidHeld g → 1 ≤ s → s ≤ 128 → used e ≡ true
-    → Inside B n e → putCheck B n (tablesAt B n xs) s e .number ≡ 0
+    → Inside B n e → putCheck B n (tablesAt B n xs) s e 0 .number ≡ 0
 fresh-put B n g xs s e k l h a b u i =
-    ok-put B n (tablesAt B n xs) s e
+    ok-put B n (tablesAt B n xs) s e 0
     (record {
       card = state-check k l (held-back g h) (small-zeros 16384);
       one = a;
@@ -100,6 +105,7 @@ fresh-put B n g xs s e k l h a b u i =
       inside = i;
       free = λ j q _. ap (λ (r : List ℕ). overlaps e (entry r j)) (state-front k) ∙ ap (λ (x : List ℕ). overlaps e x) (entry-zeros j q) ∙ overlaps-comm e (zeros 128) ∙ overlaps-zeros e;
       alone = λ j q _. ap (λ (r : List ℕ). bears (partGuidOf e) (entry r j)) (state-front k) ∙ ap (λ (x : List ℕ). bears (partGuidOf e) x) (entry-zeros j q) ∙ bears-unused (partGuidOf e) (zeros 128) unused-zeros;
+      flags = refl;
     })
 
 pub clear-check : (B n : ℕ) (t : Tables) (s : ℕ) → slotCheck B n t s .number ≡ 0 → check B n t .number ≡ 0
@@ -121,11 +127,11 @@ module _ (B n : ℕ) (xs : List ℕ) (l : length xs ≡ n) (s : ℕ) where
   change-done e le c p q =
       write-state B n xs l _ _ (check-good B n (tablesAt B n xs) c .room) (length-set-entry _ (s - 1) e (accepted-array B n xs l c) p le) q
 
-  pub put-done : (e : List ℕ) → length e ≡ 128 → putCheck B n (tablesAt B n xs) s e .number ≡ 0
-      → State B n (guidOf (tablesAt B n xs .front)) (setEntry (tablesAt B n xs .front .array) (s - 1) e) (putAt B n xs s e .image)
+  pub put-done : (e : List ℕ) (reserved : ℕ) → length e ≡ 128 → putCheck B n (tablesAt B n xs) s e reserved .number ≡ 0
+      → State B n (guidOf (tablesAt B n xs .front)) (setEntry (tablesAt B n xs .front .array) (s - 1) e) (putAt B n xs s e reserved .image)
   unfolding putAt
-  put-done e le h =
-      let o = put-ok B n (tablesAt B n xs) s e h in
+  put-done e reserved le h =
+      let o = put-ok B n (tablesAt B n xs) s e reserved h in
       let k = check-good B n (tablesAt B n xs) (o .card) in
       subst (λ (i : List ℕ). State B n (guidOf (tablesAt B n xs .front)) (setEntry (tablesAt B n xs .front .array) (s - 1) e) i) (sym (accepted-image tt _ xs _ h))
       (change-done e le (o .card) (o .slot)

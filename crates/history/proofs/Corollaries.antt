@@ -15,9 +15,9 @@ use Rattle.units.specs.Answer.{accepted, pick, ends}
 use Rattle.units.specs.Bytes.{part}
 use Rattle.units.specs.Guids.{guidBytes}
 use Rattle.partition.specs.declared.Partition.{Partition}
-use Rattle.partition.specs.Format.{entryAt, named}
+use Rattle.partition.specs.Format.{entryAt, entryBytes, named}
 use Rattle.partition.specs.Held.{PartitionHeld}
-use Rattle.partition.proofs.Laws.{length-entry, entry-here}
+use Rattle.partition.proofs.Laws.{entry-here}
 use Rattle.mbr.specs.Format.{fresh}
 use Rattle.mbr.specs.Parsing.{imageParsed}
 use Rattle.mbr.proofs.Laws.{store-all, whole-reads-back}
@@ -37,7 +37,7 @@ use Rattle.tables.proofs.Good.{room-ok, check-good, card-whole, accepted-array}
 use Rattle.history.proofs.State.{taken-zero, accepted-image, State, state-guid, state-guid-back, state-front, state-back, lay-done}
 use Rattle.history.proofs.Changes.{put-ok, put-done, clear-done}
 use Rattle.history.proofs.Payload.{pay-ok, payload-tables, payload-length}
-use Rattle.history.proofs.Records.{held-named, named-twice}
+use Rattle.history.proofs.Records.{held-named, named-twice, tidied-is, length-put}
 
 -- ---- twins
 
@@ -55,8 +55,8 @@ state-twins B n g arr xs k =
 pub twins-after : (B : ℕ) (o : Op) (xs : List ℕ) → call B o xs .taken ≡ true → Twins (tables B (call B o xs .image))
 unfolding putAt clearAt payloadAt
 twins-after B (put s p v) xs q =
-    let z : putCheck B (length xs) (tables B xs) s (putBytes p) .number ≡ 0 = taken-zero tt _ _ _ q in
-    state-twins B (length xs) _ _ _ (put-done B (length xs) xs refl s (putBytes p) (length-entry (named p) (held-named p v .fields .long)) z)
+    let z : putCheck B (length xs) (tables B xs) s (putBytes p) (p .flags .reserved) .number ≡ 0 = taken-zero tt _ _ _ q in
+    state-twins B (length xs) _ _ _ (put-done B (length xs) xs refl s (putBytes p) (p .flags .reserved) (length-put p v) z)
 twins-after B (clear s) xs q =
     let z : slotCheck B (length xs) (tables B xs) s .number ≡ 0 = taken-zero tt _ _ _ q in
     state-twins B (length xs) _ _ _ (clear-done B (length xs) xs refl s z)
@@ -75,14 +75,17 @@ pub put-reads : (B : ℕ) (xs : List ℕ) (s : ℕ) (p : Partition) → Partitio
     × (entryAt (entry (tablesAt B (length xs) (putOutcome B xs s p .image) .back .array) (s - 1)) 0 ≡ named p)
 unfolding putAt
 put-reads B xs s p v h =
-    let z : putCheck B (length xs) (tables B xs) s (putBytes p) .number ≡ 0 = taken-zero tt _ _ _ (ap taken h) in
-    let o = put-ok B (length xs) (tables B xs) s (putBytes p) z in
-    let le : length (putBytes p) ≡ 128 = length-entry (named p) (held-named p v .fields .long) in
-    let k = put-done B (length xs) xs refl s (putBytes p) le z in
+    let z : putCheck B (length xs) (tables B xs) s (putBytes p) (p .flags .reserved) .number ≡ 0 = taken-zero tt _ _ _ (ap taken h) in
+    let o = put-ok B (length xs) (tables B xs) s (putBytes p) (p .flags .reserved) z in
+    let le : length (putBytes p) ≡ 128 = length-put p v in
+    let k = put-done B (length xs) xs refl s (putBytes p) (p .flags .reserved) le z in
     let e : entry (setEntry (tables B xs .front .array) (s - 1) (putBytes p)) (s - 1) ≡ putBytes p =
     entry-same (tables B xs .front .array) (s - 1) (putBytes p) (accepted-array B (length xs) xs refl (o .card)) (o .slot) le in
     let r : entryAt (putBytes p) 0 ≡ named p =
-    ap (λ (l : List ℕ). entryAt l 0) (sym (append-nil (putBytes p))) ∙ entry-here (named p) [] (held-named p v .fields) ∙ named-twice p in (
+    ap (λ (x : Partition). entryAt (entryBytes x) 0) (tidied-is p (o .flags))
+    ∙ ap (λ (l : List ℕ). entryAt l 0) (sym (append-nil (entryBytes (named p))))
+    ∙ entry-here (named p) [] (held-named p v .fields) (omega (arith, o .flags))
+    ∙ named-twice p in (
       ap (λ (a : List ℕ). entryAt (entry a (s - 1)) 0) (state-front k) ∙ ap (λ (a : List ℕ). entryAt a 0) e ∙ r,
       ap (λ (a : List ℕ). entryAt (entry a (s - 1)) 0) (state-back k) ∙ ap (λ (a : List ℕ). entryAt a 0) e ∙ r,
     )

@@ -13,9 +13,7 @@ use lib.Seq.{sets}
 use Rattle.units.specs.declared.Guid.{Guid}
 use Rattle.units.specs.Answer.{accepted, pick}
 use Rattle.units.proofs.Lists.{getD-in, getD-out}
-use Rattle.partition.specs.Format.{named}
 use Rattle.partition.specs.Array.{Found}
-use Rattle.partition.proofs.Laws.{length-entry}
 use Rattle.tables.specs.Lens.{tablesAt, withTablesAt, OutsideTables}
 use Rattle.tables.specs.Entries.{zeros, entry, firstOf}
 use Rattle.tables.specs.Check.{check, slotCheck}
@@ -29,7 +27,7 @@ use Rattle.tables.proofs.Good.{room-ok, check-good, card-whole, accepted-array}
 use Rattle.history.proofs.State.{accepted-image, taken-zero, untaken-image, state-front}
 use Rattle.history.proofs.Changes.{put-ok, clear-check, clear-slot}
 use Rattle.history.proofs.Payload.{pays, payload-image, pay-fits}
-use Rattle.history.proofs.Records.{held-named}
+use Rattle.history.proofs.Records.{length-put}
 use Rattle.history.proofs.Steps.{Holds, slot-first, step, lay-holds}
 
 pub sets-byte : (xs : List ℕ) (at : ℕ) (ys : List ℕ) (i : ℕ) → at + length ys ≤ length xs
@@ -61,13 +59,13 @@ module _ (B n : ℕ) (xs : List ℕ) (l : length xs ≡ n) (s : ℕ) where
   change-beside e le c p i o =
       with-byte B n (room-ok B n (check-good B n (tablesAt B n xs) c .room)) xs l _ (changed-whole B n xs l s e c p le) i (o .0) (o .1)
 
-  pub put-beside : (e : List ℕ) → length e ≡ 128 → (i : ℕ) → OutsideTables B n i → getD (putAt B n xs s e .image) i 0 ≡ getD xs i 0
+  pub put-beside : (e : List ℕ) (reserved : ℕ) → length e ≡ 128 → (i : ℕ) → OutsideTables B n i → getD (putAt B n xs s e reserved .image) i 0 ≡ getD xs i 0
   unfolding putAt
-  put-beside e le i o =
-      by-test (taken (putAt B n xs s e .answer))
+  put-beside e reserved le i o =
+      by-test (taken (putAt B n xs s e reserved .answer))
       (λ q.
-      let z : putCheck B n (tablesAt B n xs) s e .number ≡ 0 = taken-zero tt _ _ _ q in
-      let k = put-ok B n (tablesAt B n xs) s e z in
+      let z : putCheck B n (tablesAt B n xs) s e reserved .number ≡ 0 = taken-zero tt _ _ _ q in
+      let k = put-ok B n (tablesAt B n xs) s e reserved z in
       ap (λ (x : List ℕ). getD x i 0) (accepted-image tt _ xs _ z) ∙ change-beside e le (k .card) (k .slot) i o)
       (λ q. ap (λ (x : List ℕ). getD x i 0) (untaken-image tt _ _ _ q))
 
@@ -113,7 +111,7 @@ module _ {B n : ℕ} {g xs : List ℕ} {slots : ℕ → Found} (h : Holds B n g 
 
   byte-at : (c : Op) → getD (doneAt B n c xs .image) i 0 ≡ afterByte B (doneAt B n c xs .taken) c slots i (getD xs i 0)
   byte-at (put s p v) =
-      put-beside B n xs l s (putBytes p) (length-entry (named p) (held-named p v .fields .long)) i o ∙ sym (untold (put s p v) (taken (putAt B n xs s (putBytes p) .answer)) refl)
+      put-beside B n xs l s (putBytes p) (p .flags .reserved) (length-put p v) i o ∙ sym (untold (put s p v) (taken (putAt B n xs s (putBytes p) (p .flags .reserved) .answer)) refl)
   byte-at (clear s) = clear-beside B n xs l s i o ∙ sym (untold (clear s) (taken (clearAt B n xs s .answer)) refl)
   byte-at (payload s a ys) = payload-byte s a ys (taken (payloadAt B n xs s a ys .answer)) refl
 

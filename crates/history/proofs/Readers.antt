@@ -66,7 +66,7 @@ pub entry-reads : (xs : List ℕ) (at : ℕ) (f : Found) → Kept f → part xs 
 entry-reads xs at f k e =
     let r : List ℕ = drop 128 (drop at xs) in
     let d : drop at xs ≡ entryBytes (f .partition) ++ drop 128 (drop at xs) = sym (take-append-drop 128 (drop at xs)) ∙ ap (λ (l : List ℕ). l ++ r) e in
-    entry-drop xs at ∙ ap (λ (l : List ℕ). entryAt l 0) d ∙ entry-here (f .partition) r (k .held .fields) ∙ k .clear
+    entry-drop xs at ∙ ap (λ (l : List ℕ). entryAt l 0) d ∙ entry-here (f .partition) r (k .held .fields) (k .joins) ∙ k .clear
 
 module _ (B : ℕ) (xs : List ℕ) (g : Guid) (slots : ℕ → Found) (h : Holds B (length xs) (guidBytes g) slots xs) (gh : GuidHeld g) (fits : length xs < 2 ^ 64) where
   room-of : Room B (length xs)

@@ -12,10 +12,13 @@ use Rattle.units.specs.Held.{Small, GuidHeld}
 use Rattle.units.proofs.Lists.{drop-next}
 use Rattle.units.proofs.Laws.{length-bytes, field-here, Low, low-append, low-bytes}
 use Rattle.units.proofs.GuidLaws.{length-guid, low-guid}
+use Rattle.partition.specs.declared.Flags.{Flags}
 use Rattle.partition.specs.declared.Partition.{Partition}
-use Rattle.partition.specs.Format.{unitBytes, firstZero, cleared, entryBytes, named, zeroPartition}
+use Rattle.partition.specs.Flags.{flagsOf, joined}
+use Rattle.partition.specs.Format.{unitBytes, firstZero, cleared, entryBytes, named, tidied, zeroPartition}
 use Rattle.partition.specs.Held.{PartitionHeld}
-use Rattle.partition.proofs.Laws.{first-le, length-cleared, cleared-twice}
+use Rattle.partition.proofs.FlagLaws.{none-reserved}
+use Rattle.partition.proofs.Laws.{first-le, length-cleared, cleared-twice, length-entry}
 use Rattle.tables.specs.Entries.{zeros, firstOf, lastOf, partGuidOf}
 use Rattle.tables.proofs.Orders.{split}
 
@@ -23,10 +26,10 @@ use Rattle.tables.proofs.Orders.{split}
 
 -- 20 and 21 are about its blocks, 25 about its GUID
 module _ (p : Partition) where
-  at-16 : drop 16 (entryBytes p) ≡ guidBytes (p .«part_guid») ++ (bytes 8 (p .«first_lba» .0) ++ (bytes 8 (p .«last_lba» .0) ++ (bytes 8 (p .flags) ++ unitBytes (p .name))))
+  at-16 : drop 16 (entryBytes p) ≡ guidBytes (p .«part_guid») ++ (bytes 8 (p .«first_lba» .0) ++ (bytes 8 (p .«last_lba» .0) ++ (bytes 8 (joined (p .flags)) ++ unitBytes (p .name))))
   at-16 = drop-next (entryBytes p) 0 (guidBytes (p .«part_type_guid»)) _ 16 refl (omega (arith, length-guid (p .«part_type_guid»)))
 
-  at-32 : drop 32 (entryBytes p) ≡ bytes 8 (p .«first_lba» .0) ++ (bytes 8 (p .«last_lba» .0) ++ (bytes 8 (p .flags) ++ unitBytes (p .name)))
+  at-32 : drop 32 (entryBytes p) ≡ bytes 8 (p .«first_lba» .0) ++ (bytes 8 (p .«last_lba» .0) ++ (bytes 8 (joined (p .flags)) ++ unitBytes (p .name)))
   at-32 = drop-next (entryBytes p) 16 (guidBytes (p .«part_guid»)) _ 32 at-16 (ap (λ (k : ℕ). 16 + k) (length-guid (p .«part_guid»)))
 
   pub record-guid : partGuidOf (entryBytes p) ≡ guidBytes (p .«part_guid»)
@@ -85,9 +88,22 @@ named-twice p =
     (λ (us : List ℕ). record { «part_type_guid» = p .«part_type_guid»; «part_guid» = p .«part_guid»; «first_lba» = p .«first_lba»; «last_lba» = p .«last_lba»; flags = p .flags; name = us })
     (cleared-twice (p .name))
 
+-- ---- what put stores
+
+pub length-put : (p : Partition) → PartitionHeld p → length (entryBytes (tidied p)) ≡ 128
+length-put p h = length-entry (tidied p) (length-cleared (p .name) ∙ h .fields .long)
+
+-- a record with no reserved flag is stored as it is, but for its name
+pub tidied-is : (p : Partition) → p .flags .reserved ≡ 0 → tidied p ≡ named p
+tidied-is p e =
+    ap
+    (λ (f : Flags). record { «part_type_guid» = p .«part_type_guid»; «part_guid» = p .«part_guid»; «first_lba» = p .«first_lba»; «last_lba» = p .«last_lba»; flags = f; name = cleared (p .name) })
+    (none-reserved (p .flags) e)
+
 -- ---- the record of an unused slot
 
 pub held-zero : PartitionHeld zeroPartition
+unfolding flagsOf
 held-zero =
     let t : GuidHeld (zeroPartition .«part_type_guid») =
     record { fields = record { low = omega arith; mid = omega arith; high = omega arith }; tail = zero-below 256 (omega arith) 8 } in
@@ -97,7 +113,7 @@ held-zero =
         guid = t .fields;
         first = omega arith;
         last = omega arith;
-        flags = omega arith;
+        flags = record { reserved = omega arith; owner = omega arith };
         long = refl;
         units = zero-below (2 ^ 16) (omega arith) 36;
       };
@@ -110,7 +126,7 @@ unfolding cleared firstZero
 named-zero = refl
 
 pub zero-bytes-of : entryBytes zeroPartition ≡ zeros 128
-unfolding zeros bytes unitBytes
+unfolding zeros bytes unitBytes flagsOf joined
 zero-bytes-of = refl
 
 -- ---- every byte of a record is a byte

@@ -15,9 +15,11 @@ use Rattle.units.proofs.Lists.{getD-part}
 use Rattle.units.specs.Held.{Small}
 use Rattle.units.specs.Guids.{guidAt, guidBytes}
 use Rattle.partition.specs.declared.Partition.{Partition}
+use Rattle.partition.specs.Flags.{Joins}
 use Rattle.partition.specs.Format.{entryBytes, named}
 use Rattle.partition.specs.Array.{Found}
 use Rattle.partition.specs.Held.{PartitionHeld}
+use Rattle.partition.proofs.FlagLaws.{flags-join}
 use Rattle.partition.proofs.Laws.{length-entry}
 use Rattle.tables.specs.Lens.{tablesAt, tables}
 use Rattle.tables.specs.Entries.{zeros, entry, setEntry, used, firstOf, lastOf, partGuidOf}
@@ -30,22 +32,23 @@ use Rattle.tables.proofs.HeaderLaws.{guid-twice}
 use Rattle.history.proofs.State.{taken-zero, untaken-image, State, state-guid, state-front, lay-done}
 use Rattle.history.proofs.Changes.{put-ok, put-done, clear-slot, clear-done}
 use Rattle.history.proofs.Payload.{payload-tables, payload-length}
-use Rattle.history.proofs.Records.{small-record, record-first, record-last, record-guid, held-named, named-twice, held-zero, named-zero, zero-bytes-of}
+use Rattle.history.proofs.Records.{small-record, record-first, record-last, record-guid, held-named, named-twice, tidied-is, length-put, held-zero, named-zero, zero-bytes-of}
 
--- what a slot holds is a record as the code can hold it, its name cleared; it is present exactly where its type is not nil, and all zero where it is absent
+-- what a slot holds is a record as the code can hold it, its flags such as can be joined and its name cleared; it is present exactly where its type is not nil, and all zero where it is absent
 pub record Kept (f : Found) : Type 0 where
   pub held : PartitionHeld (f .partition)
+  pub joins : Joins (f .partition .flags)
   pub clear : named (f .partition) ≡ f .partition
   pub seen : used (entryBytes (f .partition)) ≡ f .present
   pub zero : f .present ≡ false → entryBytes (f .partition) ≡ zeros 128
 
 kept-empty : Kept emptySlot
 kept-empty =
-    record { held = held-zero; clear = named-zero; seen = ap used zero-bytes-of ∙ unused-zeros; zero = λ _. zero-bytes-of }
+    record { held = held-zero; joins = flags-join 0; clear = named-zero; seen = ap used zero-bytes-of ∙ unused-zeros; zero = λ _. zero-bytes-of }
 
-kept-filled : (p : Partition) → PartitionHeld p → used (putBytes p) ≡ true → Kept (filledSlot p)
-kept-filled p h u =
-    record { held = held-named p h; clear = named-twice p; seen = u; zero = λ e. let z : _≡_ {A = ℕ} 0 1 = cc in absurd (omega arith) }
+kept-filled : (p : Partition) → PartitionHeld p → p .flags .reserved ≡ 0 → used (putBytes p) ≡ true → Kept (filledSlot p)
+kept-filled p h r u =
+    record { held = held-named p h; joins = omega arith; clear = named-twice p; seen = ap (λ (q : Partition). used (entryBytes q)) (sym (tidied-is p r)) ∙ u; zero = λ e. let z : _≡_ {A = ℕ} 0 1 = cc in absurd (omega arith) }
 
 -- a card, and what its slots hold
 pub record Holds (B n : ℕ) (g : List ℕ) (slots : ℕ → Found) (xs : List ℕ) : Type 0 where
@@ -135,15 +138,16 @@ module _ {B n : ℕ} {g xs : List ℕ} {slots : ℕ → Found} (h : Holds B n g 
   same-holds : {i : List ℕ} → i ≡ xs → Holds B n g slots i
   same-holds e = subst (λ (x : List ℕ). Holds B n g slots x) (sym e) h
 
-  put-holds : (s : ℕ) (p : Partition) (v : PartitionHeld p) (t : Bool) → taken (putAt B n xs s (putBytes p) .answer) ≡ t
-      → Holds B n g (λ (k : ℕ). after t (put s p v) k (slots k)) (putAt B n xs s (putBytes p) .image)
+  put-holds : (s : ℕ) (p : Partition) (v : PartitionHeld p) (t : Bool) → taken (putAt B n xs s (putBytes p) (p .flags .reserved) .answer) ≡ t
+      → Holds B n g (λ (k : ℕ). after t (put s p v) k (slots k)) (putAt B n xs s (putBytes p) (p .flags .reserved) .image)
   unfolding putAt
   put-holds s p v true q =
-      let e : List ℕ = putBytes p in
-      let z : putCheck B n (tablesAt B n xs) s (putBytes p) .number ≡ 0 = taken-zero tt _ _ _ q in
-      let o = put-ok B n (tablesAt B n xs) s (putBytes p) z in
-      set-holds s (filledSlot p) _ (o .one) (o .slot) (kept-filled p v (o .taken))
-      (put-done B n xs (h .state .size) s (putBytes p) (length-entry (named p) (held-named p v .fields .long)) z)
+      let r : ℕ = p .flags .reserved in
+      let z : putCheck B n (tablesAt B n xs) s (putBytes p) r .number ≡ 0 = taken-zero tt _ _ _ q in
+      let o = put-ok B n (tablesAt B n xs) s (putBytes p) r z in
+      set-holds s (filledSlot p) _ (o .one) (o .slot) (kept-filled p v (o .flags) (o .taken))
+      (subst (λ (x : Partition). State B n (guidOf (tablesAt B n xs .front)) (setEntry (tablesAt B n xs .front .array) (s - 1) (entryBytes x)) (putAt B n xs s (putBytes p) (p .flags .reserved) .image)) (tidied-is p (o .flags))
+      (put-done B n xs (h .state .size) s (putBytes p) r (length-put p v) z))
   put-holds s p v false q = same-holds (untaken-image tt _ _ _ q)
 
   clear-holds : (s : ℕ) (t : Bool) → taken (clearAt B n xs s .answer) ≡ t
@@ -179,7 +183,7 @@ module _ {B n : ℕ} {g xs : List ℕ} {slots : ℕ → Found} (h : Holds B n g 
   payload-holds s p ys false q = same-holds (untaken-image (length ys) _ _ _ q)
 
   step-at : (o : Op) → Holds B n g (λ (k : ℕ). after (doneAt B n o xs .taken) o k (slots k)) (doneAt B n o xs .image)
-  step-at (put s p v) = put-holds s p v (taken (putAt B n xs s (putBytes p) .answer)) refl
+  step-at (put s p v) = put-holds s p v (taken (putAt B n xs s (putBytes p) (p .flags .reserved) .answer)) refl
   step-at (clear s) = clear-holds s (taken (clearAt B n xs s .answer)) refl
   step-at (payload s p ys) = payload-holds s p ys (taken (payloadAt B n xs s p ys .answer)) refl
 

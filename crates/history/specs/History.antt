@@ -1,5 +1,5 @@
 -- A list of calls after a lay, accepted and refused among them, and what it tells of every slot and every byte. What the card then is: `Card`.
--- From document 01, "The card calls" and "How much a contract has to say", and document 02, 3/13. Assumes nothing.
+-- From document 01, "The card calls" and "How much a contract has to say", and document 02, 3/13 and 7/13. Assumes nothing.
 use mathlib.Core.Path.{_≡_}
 use mathlib.Core.Logic.{_⊎_}
 use mathlib.Core.Bool.{Bool, true, false, _&&_}
@@ -45,7 +45,7 @@ done o = record { taken = taken (o .answer); image = o .image }
 
 -- in an image of n bytes
 abbrev pub doneAt : ℕ → ℕ → Op → List ℕ → Done
-doneAt B n (put s p _) xs = done (putAt B n xs s (putBytes p))
+doneAt B n (put s p _) xs = done (putAt B n xs s (putBytes p) (p .flags .reserved))
 doneAt B n (clear s) xs = done (clearAt B n xs s)
 doneAt B n (payload s p ys) xs = done (payloadAt B n xs s p ys)
 

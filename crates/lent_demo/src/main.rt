@@ -9,6 +9,7 @@ use crate::say::text;
 use header::Header;
 use header::Revision;
 use header::SumFound;
+use partition::Flags;
 use partition::Partition;
 use partition::PartitionCount;
 use rows::Entry;
@@ -100,7 +101,7 @@ fn blocks(kind: u32, first: u64, last: u64) -> Partition {
         part_guid: Guid::nil(),
         first_lba: Lba(first),
         last_lba: Lba(last),
-        flags: 0,
+        flags: Flags::of_bits(0),
         name: [0; 36],
     }
 }

@@ -26,10 +26,13 @@ use Rattle.units.specs.Held.{Small}
 use Rattle.units.proofs.Lists.{part-join, part-split, sets-then, drop-sets, drop-next}
 use Rattle.units.proofs.Laws.{length-bytes, num-part, num-drop, num-here, field-here, bytes-num, zero-part}
 use Rattle.units.proofs.GuidLaws.{fit-guid-of, guid-held-of, length-guid, guid-drop, guid-here, guid-part, guid-bytes-back}
+use Rattle.partition.specs.declared.Flags.{Flags}
 use Rattle.partition.specs.declared.Partition.{Partition}
+use Rattle.partition.specs.Flags.{flagsOf, joined, Joins}
 use Rattle.partition.specs.Format.{unitsAt, unitBytes, firstZero, cleared, entryAt, entryBytes, named, zeroPartition, fitted}
 use Rattle.partition.specs.Held.{FitEntry, PartitionHeld}
 use Rattle.partition.specs.Array.{present, presentFrom, firstSlot}
+use Rattle.partition.proofs.FlagLaws.{fit-flags-of, joined-fits, join-split, split-join}
 use Rattle.partition.proofs.Partition.{the-type}
 
 -- ---- names: the first zero unit, and zeros from there on
@@ -189,7 +192,7 @@ fit-entry-of p vs o =
       guid = fit-guid-of _ _ (f .1 .0);
       first = f .1 .1 .0 .1 .1 .0 .1;
       last = f .1 .1 .1 .0 .1 .1 .0 .1;
-      flags = f .1 .1 .1 .1 .0 .1;
+      flags = fit-flags-of _ _ (f .1 .1 .1 .1 .0);
       long = length-unmapped ℕ (p .name) 36 (f .1 .1 .1 .1 .1 .0 .1 .0 .1);
       units = λ i. elem-fits-field w16 w16 (p .name) _ i (f .1 .1 .1 .1 .1 .0 .1 .1) tt .fits;
     }
@@ -220,7 +223,7 @@ units-here (u ∷ us) r h =
       units-here us r (λ i. h (suc i)),
     ))
 
-entry-eq : {t g t′ g′ : Guid} {a b a′ b′ : Lba} {f f′ : ℕ} {n n′ : List ℕ} → t ≡ t′ → g ≡ g′ → a ≡ a′ → b ≡ b′ → f ≡ f′ → n ≡ n′
+entry-eq : {t g t′ g′ : Guid} {a b a′ b′ : Lba} {f f′ : Flags} {n n′ : List ℕ} → t ≡ t′ → g ≡ g′ → a ≡ a′ → b ≡ b′ → f ≡ f′ → n ≡ n′
     → _≡_ {A = Partition}
     (record { «part_type_guid» = t; «part_guid» = g; «first_lba» = a; «last_lba» = b; flags = f; name = n })
     (record { «part_type_guid» = t′; «part_guid» = g′; «first_lba» = a′; «last_lba» = b′; flags = f′; name = n′ })
@@ -230,11 +233,11 @@ lba : (x y : ℕ) → x ≡ y → _≡_ {A = Lba} (record { 0 = x }) (record { 0
 lba x y e = rw e
 
 -- the bytes of a record, whatever stands after them, read as the record with its name cleared
-pub entry-here : (p : Partition) (r : List ℕ) → FitEntry p → entryAt (entryBytes p ++ r) 0 ≡ named p
-entry-here p r h =
+pub entry-here : (p : Partition) (r : List ℕ) → FitEntry p → Joins (p .flags) → entryAt (entryBytes p ++ r) 0 ≡ named p
+entry-here p r h q =
     let X : List ℕ = entryBytes p ++ r in
     let N : List ℕ = unitBytes (p .name) ++ r in
-    let F : List ℕ = bytes 8 (p .flags) ++ N in
+    let F : List ℕ = bytes 8 (joined (p .flags)) ++ N in
     let L : List ℕ = bytes 8 (p .«last_lba» .0) ++ F in
     let A : List ℕ = bytes 8 (p .«first_lba» .0) ++ L in
     let G : List ℕ = guidBytes (p .«part_guid») ++ A in
@@ -243,22 +246,22 @@ entry-here p r h =
     let d32 : drop 32 X ≡ A = drop-next X 16 (guidBytes (p .«part_guid»)) A 32 d16 (omega (arith, length-guid (p .«part_guid»))) in
     let d40 : drop 40 X ≡ L = drop-next X 32 (bytes 8 (p .«first_lba» .0)) L 40 d32 (omega (arith, length-bytes 8 (p .«first_lba» .0))) in
     let d48 : drop 48 X ≡ F = drop-next X 40 (bytes 8 (p .«last_lba» .0)) F 48 d40 (omega (arith, length-bytes 8 (p .«last_lba» .0))) in
-    let d56 : drop 56 X ≡ N = drop-next X 48 (bytes 8 (p .flags)) N 56 d48 (omega (arith, length-bytes 8 (p .flags))) in
+    let d56 : drop 56 X ≡ N = drop-next X 48 (bytes 8 (joined (p .flags))) N 56 d48 (omega (arith, length-bytes 8 (joined (p .flags)))) in
     let u : unitsAt 36 N 0 ≡ p .name = rw (h .long) at (units-here (p .name) r (h .units)) in
     entry-eq
     (rw d0 (guid-here (p .«part_type_guid») G (h .type)))
     (guid-drop X 16 0 ∙ rw d16 (guid-here (p .«part_guid») A (h .guid)))
     (lba _ _ (field-here X 32 8 (p .«first_lba» .0) L d32 (h .first)))
     (lba _ _ (field-here X 40 8 (p .«last_lba» .0) F d40 (h .last)))
-    (field-here X 48 8 (p .flags) N d48 (h .flags))
+    (ap flagsOf (field-here X 48 8 (joined (p .flags)) N d48 (joined-fits (p .flags) q (h .flags .owner))) ∙ split-join (p .flags) q)
     (ap cleared (units-drop 36 X 56 0 ∙ rw d56 u))
 
 -- a record that was stored at a place of an image reads back from there, its name cleared
-pub entry-back : (p : Partition) (xs : List ℕ) (at : ℕ) → FitEntry p → at + 128 ≤ length xs → entryAt (sets xs at (entryBytes p)) at ≡ named p
-entry-back p xs at h k =
+pub entry-back : (p : Partition) (xs : List ℕ) (at : ℕ) → FitEntry p → Joins (p .flags) → at + 128 ≤ length xs → entryAt (sets xs at (entryBytes p)) at ≡ named p
+entry-back p xs at h q k =
     let l : length (entryBytes p) ≡ 128 = length-entry p (h .long) in
     entry-drop (sets xs at (entryBytes p)) at
-    ∙ rw (drop-sets xs at (entryBytes p) (omega arith)) (entry-here p (drop (at + length (entryBytes p)) xs) h)
+    ∙ rw (drop-sets xs at (entryBytes p) (omega arith)) (entry-here p (drop (at + length (entryBytes p)) xs) h q)
 
 -- only the 128 bytes at the place count
 units-part : (n : ℕ) (xs : List ℕ) (a m o : ℕ) → o + 2 * n ≤ m → unitsAt n (part xs a m) o ≡ unitsAt n xs (a + o)
@@ -273,7 +276,7 @@ entry-part xs at =
     (guid-part xs at 128 16 (omega arith))
     (lba _ _ (num-part xs at 128 32 8 (omega arith)))
     (lba _ _ (num-part xs at 128 40 8 (omega arith)))
-    (num-part xs at 128 48 8 (omega arith))
+    (ap flagsOf (num-part xs at 128 48 8 (omega arith)))
     (ap cleared (units-part 36 xs at 128 56 (omega arith)))
 
 -- ---- what is read is stored back
@@ -296,6 +299,7 @@ entry-bytes-back xs at h b e =
       unit-bytes-back 36 xs (at + 56) (omega arith) b,
       f 32 (omega arith),
       f 40 (omega arith),
+      join-split (num xs (at + 48) 8),
       f 48 (omega arith),
       guid-bytes-back xs (at + 16) (omega arith) b,
       guid-bytes-back xs at (omega arith) b,
@@ -437,7 +441,7 @@ present-zero-record = (refl, refl)
 pub lone-surrogate :
     let xs : List ℕ = replicate 56 0 ++ (0x3D ∷ 0xD8 ∷ 0x41 ∷ 0x00 ∷ replicate 68 0) in
     (entryAt xs 0 .name ≡ 0xD83D ∷ 0x0041 ∷ replicate 34 0) × (entryBytes (entryAt xs 0) ≡ xs)
-unfolding num le bytes unitsAt unitBytes cleared firstZero
+unfolding num le bytes unitsAt unitBytes cleared firstZero joined flagsOf
 lone-surrogate = (refl, refl)
 
 -- ---- a write to a device: none of document 01's five tests for 64 bits tells more than the one on the end

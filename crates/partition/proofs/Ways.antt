@@ -20,9 +20,11 @@ use Rattle.header.specs.Writing.{partsSum}
 use Rattle.header.proofs.Ways.{parts-by-place}
 use Rattle.units.proofs.Laws.{by-pick, pick-refused, pick-accepted, place-over, place-fits}
 use Rattle.partition.specs.Lengths.{sectorsLen, bytesLen}
-use Rattle.partition.specs.Device.{runPlace, devicePlace, storedAt, entryStored}
+use Rattle.partition.specs.Device.{runPlace, deviceSizes, devicePlace, entryDevice, storedAt, entryStored}
+use Rattle.partition.specs.declared.Flags.{Flags}
 use Rattle.partition.specs.declared.Partition.{Partition}
-use Rattle.partition.specs.Format.{entryAt, entryBytes, named, zeroPartition, fitted}
+use Rattle.partition.specs.Flags.{tooWide, Joins}
+use Rattle.partition.specs.Format.{entryAt, entryBytes, named, tidied, zeroPartition, fitted}
 use Rattle.partition.specs.Array.{presentFrom, firstSlot, arrayFound, partitionFound, partitionRead, partitionCount, partitionAfter, readingOf}
 use Rattle.partition.specs.Held.{FitEntry}
 use Rattle.partition.proofs.Laws.{length-entry, fitted-same, entry-back, next-none, next-some, length-cleared}
@@ -100,41 +102,39 @@ module _ (base offset n : ℕ) where
         let l : base + offset + n < 2 ^ 64 = omega (arith, leb-false (2 ^ 64) (p .0 + n) (r .0), at-offset) in
         rw (lt-leb (2 ^ 64) (base + offset + n) l) (ap accepted (sym (s .1)))
 
-module _ (start index b size count : ℕ) {good : Bool} (g : good ≡ goodSize b) where
-  pub device-size : not good ≡ true → refuse 1 ≡ devicePlace start index b size count
-  unfolding devicePlace runPlace
-  device-size t = rw (← g, t)
+-- the sizes, 1 and 7
+module _ (b size : ℕ) {good : Bool} (g : good ≡ goodSize b) where
+  pub sizes-block : not good ≡ true → refuse 1 ≡ deviceSizes b size
+  unfolding deviceSizes
+  sizes-block t = rw (← g, t)
 
   module _ (t : not good ≡ false) where
-    pub device-none : size ≡ 0 → refuse 7 ≡ devicePlace start index b size count
-    unfolding devicePlace runPlace
-    device-none e = rw (← g, t, eq-eqb size 0 e)
+    pub sizes-none : size ≡ 0 → refuse 7 ≡ deviceSizes b size
+    unfolding deviceSizes
+    sizes-none e = rw (← g, t, eq-eqb size 0 e)
 
-    pub device-big : 4096 < size → refuse 7 ≡ devicePlace start index b size count
-    unfolding devicePlace runPlace
-    device-big e = rw (← g, t, ne-eqb size 0 (λ z. omega arith), lt-ltb 4096 size e)
+    pub sizes-big : 4096 < size → refuse 7 ≡ deviceSizes b size
+    unfolding deviceSizes
+    sizes-big e = rw (← g, t, ne-eqb size 0 (λ z. omega arith), lt-ltb 4096 size e)
 
-    module _ (z : size ≡ 0 → ⊥) (l : size ≤ 4096) where
-      pub device-over : 2 ^ 64 ≤ start * b + index * size + count * size → refuse 3 ≡ devicePlace start index b size count
-      unfolding devicePlace runPlace
-      device-over o = rw (← g, t, ne-eqb size 0 z, le-ltb 4096 size l, le-leb (2 ^ 64) (start * b + index * size + count * size) o)
+    pub sizes-good : (size ≡ 0 → ⊥) → size ≤ 4096 → accepted tt ≡ deviceSizes b size
+    unfolding deviceSizes
+    sizes-good z l = rw (← g, t, ne-eqb size 0 z, le-ltb 4096 size l)
 
-      -- the block's place is refused, or a run of bytes stands at it
-      pub device-start : {w : Why} → placeOf start b ≡ refused w → refused w ≡ devicePlace start index b size count
-      device-start e =
-          let r = place-over start b (sym g ∙ not-false good t) e in
-          ap refused (sym (r .1)) ∙ device-over (omega (arith, leb-true (2 ^ 64) (start * b) (r .0)))
+-- the products, 3
+pub run-over : (base offset n : ℕ) → 2 ^ 64 ≤ base + offset + n → refuse 3 ≡ runPlace base offset n
+unfolding runPlace
+run-over base offset n o = rw (le-leb (2 ^ 64) (base + offset + n) o)
 
-      pub device-run : {p : BytePlace} → placeOf start b ≡ accepted p → runPlace (p .0) (index * size) (count * size) ≡ devicePlace start index b size count
-      unfolding devicePlace
-      device-run e =
-          let r = place-fits start b (sym g ∙ not-false good t) e in
-          let q : start * b ≡ _ = ap (λ (x : BytePlace). x .0) (r .1) in
-          rw (← g, t, ne-eqb size 0 z, le-ltb 4096 size l, q)
+-- the block's place is refused, or a run of bytes stands at it
+module _ (b start offset n : ℕ) (g : goodSize b ≡ true) where
+  pub run-start : {w : Why} → placeOf start b ≡ refused w → refused w ≡ runPlace (start * b) offset n
+  run-start e =
+      let r = place-over start b g e in
+      ap refused (sym (r .1)) ∙ run-over (start * b) offset n (omega (arith, leb-true (2 ^ 64) (start * b) (r .0)))
 
-      pub device-at : start * b + index * size + count * size < 2 ^ 64 → accepted (record { 0 = start * b + index * size }) ≡ devicePlace start index b size count
-      unfolding devicePlace runPlace
-      device-at o = rw (← g, t, ne-eqb size 0 z, le-ltb 4096 size l, lt-leb (2 ^ 64) (start * b + index * size + count * size) o)
+  pub run-from : {p : BytePlace} → placeOf start b ≡ accepted p → runPlace (p .0) offset n ≡ runPlace (start * b) offset n
+  run-from e = ap (λ (x : BytePlace). runPlace (x .0) offset n) (sym (place-fits start b g e .1))
 
 or-false : (p q : Bool) → (p || q) ≡ false → (p ≡ false) × (q ≡ false)
 or-false true q e = absurd (let z : _≡_ {A = ℕ} 0 1 = cc in omega arith)
@@ -148,28 +148,65 @@ pub record DeviceAt (start index b size count at : ℕ) : Type 0 where
   pub place : at ≡ start * b + index * size
   pub ends : at + count * size < 2 ^ 64
 
-pub device-tells : (start index b size count : ℕ) (p : BytePlace) → devicePlace start index b size count ≡ accepted p → DeviceAt start index b size count (p .0)
-unfolding devicePlace runPlace
-device-tells start index b size count p =
+-- what accepted sizes tell
+pub record SizesOf (b size : ℕ) : Type 0 where
+  pub good : goodSize b ≡ true
+  pub filled : 1 ≤ size
+  pub small : size ≤ 4096
+
+pub sizes-tell : (b size : ℕ) {u : Unit} → deviceSizes b size ≡ accepted u → SizesOf b size
+unfolding deviceSizes
+sizes-tell b size {u} =
     by-pick Q (not (goodSize b)) _ _ (λ _ e. never e)
     (λ g. by-pick Q (eqb size 0 || ltb 4096 size) _ _ (λ _ e. never e)
-    (λ z. by-pick Q (leb (2 ^ 64) (start * b + index * size + count * size)) _ _ (λ _ e. never e)
-    (λ o e.
-    let q : p .0 ≡ start * b + index * size = cc in
+    (λ z e.
     let f = or-false (eqb size 0) (ltb 4096 size) z in
-    record {
-      good = not-false (goodSize b) g;
-      filled = eqb-false size 0 (f .0);
-      small = ltb-false 4096 size (f .1);
-      place = q;
-      ends = omega (arith, leb-false (2 ^ 64) (start * b + index * size + count * size) o);
-    })))
+    let d : size ≡ 0 → ⊥ = eqb-false size 0 (f .0) in
+    record { good = not-false (goodSize b) g; filled = omega arith; small = ltb-false 4096 size (f .1) }))
   where
+    Q : Answer Unit → Type 0
+    Q a = a ≡ accepted u → SizesOf b size
+
+    never : {w : Why} → refused w ≡ accepted u → SizesOf b size
+    never e = absurd (let z : _≡_ {A = ℕ} 0 1 = cc in omega arith)
+
+pub device-tells : (start index b size count : ℕ) (p : BytePlace) → devicePlace start index b size count ≡ accepted p → DeviceAt start index b size count (p .0)
+unfolding devicePlace runPlace
+device-tells start index b size count p = go (deviceSizes b size) refl
+  where
+    never : {w : Why} → refused w ≡ accepted p → DeviceAt start index b size count (p .0)
+    never e = absurd (let z : _≡_ {A = ℕ} 0 1 = cc in omega arith)
+
     Q : Answer BytePlace → Type 0
     Q a = a ≡ accepted p → DeviceAt start index b size count (p .0)
 
-    never : {w : Why} → refused w ≡ accepted p → DeviceAt start index b size count (p .0)
-    never e = absurd (let z : _≡_ {A = ℕ} 0 1 = cc in omega arith)
+    go : (a : Answer Unit) → deviceSizes b size ≡ a → andThen a (λ u. runPlace (start * b) (index * size) (count * size)) ≡ accepted p → DeviceAt start index b size count (p .0)
+    go (refused w) d = never
+    go (accepted u) d =
+        by-pick Q (leb (2 ^ 64) (start * b + index * size + count * size)) _ _ (λ _ e. never e)
+        (λ o e.
+        let q : p .0 ≡ start * b + index * size = cc in
+        let f = sizes-tell b size d in
+        record {
+          good = f .good;
+          filled = λ z. omega (arith, f .filled);
+          small = f .small;
+          place = q;
+          ends = omega (arith, leb-false (2 ^ 64) (start * b + index * size + count * size) o);
+        })
+
+-- and what one for an entry with flags tells: its flags can be joined
+pub entry-tells : (f : Flags) (start index b size : ℕ) (p : BytePlace) → entryDevice f start index b size ≡ accepted p → Joins f × (devicePlace start index b size 1 ≡ accepted p)
+unfolding entryDevice devicePlace
+entry-tells f start index b size p = go (deviceSizes b size) (tooWide f) refl
+  where
+    R : Answer BytePlace
+    R = runPlace (start * b) (index * size) (1 * size)
+
+    go : (a : Answer Unit) (t : Bool) → tooWide f ≡ t → andThen a (λ u. pick t (refuse 28) R) ≡ accepted p → Joins f × (andThen a (λ u. R) ≡ accepted p)
+    go (refused w) t d e = absurd (let z : _≡_ {A = ℕ} 0 1 = cc in omega arith)
+    go (accepted u) true d e = absurd (let z : _≡_ {A = ℕ} 0 1 = cc in omega arith)
+    go (accepted u) false d e = (leb-false (2 ^ 45) (f .reserved) d, e)
 
 -- ---- bytes stored at a place that may have been refused
 
@@ -220,12 +257,13 @@ stored-tells xs (accepted p) n vs m ys e =
 pub written-back : (xs ys : List ℕ) (p : Partition) (index start b n : ℕ) → FitEntry p → entryStored xs p index start b 128 ≡ gives (accepted n) ys
     → entryAt ys (start * b + index * 128) ≡ named p
 written-back xs ys p index start b n f e =
-    let s = stored-tells xs (devicePlace start index b 128 1) 128 (fitted 128 (entryBytes p)) n ys e in
-    let d = device-tells start index b 128 1 (s .at) (s .place) in
+    let s = stored-tells xs (entryDevice (p .flags) start index b 128) 128 (fitted 128 (entryBytes p)) n ys e in
+    let t = entry-tells (p .flags) start index b 128 (s .at) (s .place) in
+    let d = device-tells start index b 128 1 (s .at) (t .1) in
     let l : s .at .0 + 128 ≤ length xs = inside-filled (length xs) (s .at .0) 128 (s .within) (λ z. omega arith) in
     let g : fitted 128 (entryBytes p) ≡ entryBytes p = fitted-same 128 (entryBytes p) (length-entry p (f .long)) in
     let i : ys ≡ sets xs (s .at .0) (entryBytes p) = s .image ∙ ap (sets xs (s .at .0)) g in
-    ap (λ (k : ℕ). entryAt ys k) (sym (d .place)) ∙ ap (λ (y : List ℕ). entryAt y (s .at .0)) i ∙ entry-back p xs (s .at .0) f l
+    ap (λ (k : ℕ). entryAt ys k) (sym (d .place)) ∙ ap (λ (y : List ℕ). entryAt y (s .at .0)) i ∙ entry-back p xs (s .at .0) f (t .0) l
 
 -- ---- where an array stands
 
@@ -420,8 +458,8 @@ module _ (xs : List ℕ) (h : Header) (b : ℕ) where
       after-some z = rw (e, next-some xs (p .0) (h .«num_parts») after (λ q. z (f ∙ q)), f)
 
 -- the record's bytes, stored over an array of 128
-pub record-made : (p q : Partition) (z r : List ℕ) → length z ≡ 128 → length (p .name) ≡ 36 → q ≡ named p → r ≡ sets z 0 (entryBytes q) → (r ≡ entryBytes (named p)) × (length r ≡ 128)
+pub record-made : (p q : Partition) (z r : List ℕ) → length z ≡ 128 → length (p .name) ≡ 36 → q ≡ tidied p → r ≡ sets z 0 (entryBytes q) → (r ≡ entryBytes (tidied p)) × (length r ≡ 128)
 record-made p q z r lz ln e h =
-    let l : length (entryBytes (named p)) ≡ 128 = length-entry (named p) (length-cleared (p .name) ∙ ln) in
-    let x : r ≡ entryBytes (named p) = h ∙ ap (λ (y : Partition). sets z 0 (entryBytes y)) e ∙ sets-all z (entryBytes (named p)) (lz ∙ sym l) in
+    let l : length (entryBytes (tidied p)) ≡ 128 = length-entry (tidied p) (length-cleared (p .name) ∙ ln) in
+    let x : r ≡ entryBytes (tidied p) = h ∙ ap (λ (y : Partition). sets z 0 (entryBytes y)) e ∙ sets-all z (entryBytes (tidied p)) (lz ∙ sym l) in
     (x, ap length x ∙ l)

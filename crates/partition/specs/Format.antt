@@ -1,5 +1,5 @@
--- A partition entry's 128 bytes (UEFI 2.10, 5.3.3): type GUID at 0, partition GUID 16, first block 32, last block 40, attributes 48, and the name at 56,
--- 36 units of 16 bits ended by a zero unit. All numbers are little-endian. Assumes nothing.
+-- A partition entry's 128 bytes (UEFI 2.10, 5.3.3): type GUID at 0, partition GUID 16, first block 32, last block 40, attributes 48 (specs/Flags), and the name at
+-- 56, 36 units of 16 bits ended by a zero unit. All numbers are little-endian. Assumes nothing.
 use Prim.Native.Nat.{ℕ, zero, suc, _+_, _-_}
 use mathlib.Core.Bool.{Bool}
 use mathlib.Core.List.{List, [], _∷_, _++_}
@@ -9,6 +9,7 @@ use Rattle.units.specs.Answer.{pick}
 use Rattle.units.specs.Bytes.{part, num, bytes, allZero}
 use Rattle.units.specs.Guids.{guidAt, guidBytes, nilGuid}
 use Rattle.partition.specs.declared.Partition.{Partition}
+use Rattle.partition.specs.Flags.{flagsOf, joined, unreserved}
 
 -- n units of 16 bits from place at on
 unfoldable pub unitsAt : ℕ → List ℕ → ℕ → List ℕ
@@ -49,7 +50,7 @@ entryAt xs at =
       «part_guid» = guidAt xs (at + 16);
       «first_lba» = record { 0 = firstAt xs at };
       «last_lba» = record { 0 = lastAt xs at };
-      flags = num xs (at + 48) 8;
+      flags = flagsOf (num xs (at + 48) 8);
       name = cleared (unitsAt 36 xs (at + 56));
     }
 
@@ -58,7 +59,7 @@ abbrev pub entryBytes : Partition → List ℕ
 entryBytes p =
     guidBytes (p .«part_type_guid»)
     ++ (guidBytes (p .«part_guid»)
-    ++ (bytes 8 (p .«first_lba» .0) ++ (bytes 8 (p .«last_lba» .0) ++ (bytes 8 (p .flags) ++ unitBytes (p .name)))))
+    ++ (bytes 8 (p .«first_lba» .0) ++ (bytes 8 (p .«last_lba» .0) ++ (bytes 8 (joined (p .flags)) ++ unitBytes (p .name)))))
 
 -- the record with its name cleared after the first zero unit
 abbrev pub named : Partition → Partition
@@ -72,6 +73,18 @@ named p =
       name = cleared (p .name);
     }
 
+-- the record as put stores it: its name cleared, and no reserved flag
+abbrev pub tidied : Partition → Partition
+tidied p =
+    record {
+      «part_type_guid» = p .«part_type_guid»;
+      «part_guid» = p .«part_guid»;
+      «first_lba» = p .«first_lba»;
+      «last_lba» = p .«last_lba»;
+      flags = unreserved (p .flags);
+      name = cleared (p .name);
+    }
+
 -- the unused entry: every byte is zero
 abbrev pub zeroPartition : Partition
 zeroPartition =
@@ -80,7 +93,7 @@ zeroPartition =
       «part_guid» = nilGuid;
       «first_lba» = record { 0 = 0 };
       «last_lba» = record { 0 = 0 };
-      flags = 0;
+      flags = flagsOf 0;
       name = replicate 36 0;
     }
 

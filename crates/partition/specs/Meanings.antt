@@ -5,6 +5,8 @@ use Prim.Native.Nat.{ℕ}
 use Rattle.units.specs.Answer.{Answer, accepted, Beside}
 use Rattle.units.specs.Refusals.{refusedBy, back}
 use Rattle.units.specs.Meanings.{verdictMeans, madeBy, one-meaning, beside-one}
+use Rattle.partition.specs.declared.FlagBits.{FlagBits}
+use Rattle.partition.specs.declared.FlagBits.the-variants as bits
 use Rattle.partition.specs.declared.Length.{Length}
 use Rattle.partition.specs.declared.Length.the-variants as length
 use Rattle.partition.specs.declared.Partition.{Partition}
@@ -14,6 +16,10 @@ use Rattle.partition.specs.declared.PartitionCount.the-variants as count
 use Rattle.partition.specs.declared.NextPartition.{NextPartition}
 use Rattle.partition.specs.declared.NextPartition.the-variants as next
 use Rattle.partition.specs.Array.{Found}
+
+abbrev pub bitsMeans : FlagBits → Answer ℕ
+bitsMeans (bits.Bits n) = accepted n
+bitsMeans (bits.Refused w) = refusedBy w
 
 abbrev pub lengthMeans : Length → Answer ℕ
 lengthMeans (length.Count n) = accepted n
@@ -33,6 +39,13 @@ nextMeans next.NoMore = accepted []
 nextMeans (next.Refused w) = refusedBy w
 
 -- ---- each answer comes back from its meaning
+
+bits-back : (r : FlagBits) → madeBy bits.Bits bits.Refused (bitsMeans r) ≡ r
+bits-back (bits.Bits n) = refl
+bits-back (bits.Refused w) = ap bits.Refused (back w)
+
+pub bits-one : (r s : FlagBits) → bitsMeans r ≡ bitsMeans s → r ≡ s
+bits-one = one-meaning bitsMeans (madeBy bits.Bits bits.Refused) bits-back
 
 length-back : (r : Length) → madeBy length.Count length.Refused (lengthMeans r) ≡ r
 length-back (length.Count n) = refl

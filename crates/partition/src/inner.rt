@@ -1,4 +1,5 @@
 // Leaves for our own crates: each `requires` is what its caller has tested. No public calls.
+use crate::Flags;
 use crate::Partition;
 use crate::PartitionRead;
 use header::Header;
@@ -17,10 +18,11 @@ ghost use Prim.Native.Nat.{_+_, _*_, _≤_, _<_, _^_};
 ghost use lib.ListN.{length, replicate};
 ghost use lib.Seq.{sets};
 ghost use Rattle.units.specs.Bytes.{part, allZero};
-ghost use Rattle.units.specs.Places.{insideOrEmpty};
-ghost use Rattle.units.specs.Meanings.{placedMeans};
-ghost use Rattle.partition.specs.Format.{firstAt, lastAt, nilTypeAt, unitsAt, unitBytes, firstZero, cleared, entryAt, entryBytes, named, fitted, zeroPartition};
-ghost use Rattle.partition.specs.Device.{runPlace, devicePlace};
+ghost use Rattle.units.specs.Places.{goodSize, insideOrEmpty};
+ghost use Rattle.units.specs.Meanings.{placedMeans, verdictMeans};
+ghost use Rattle.partition.specs.Flags.{bit, flagsOf, joined, tooWide, Joins};
+ghost use Rattle.partition.specs.Format.{firstAt, lastAt, nilTypeAt, unitsAt, unitBytes, firstZero, cleared, entryAt, entryBytes, tidied, fitted, zeroPartition};
+ghost use Rattle.partition.specs.Device.{runPlace, deviceSizes, devicePlace, entryDevice};
 ghost use Rattle.partition.specs.Array.{present, presentFrom, firstSlot, arrayFound, partitionFound};
 
 // Where the entry at array place k stands, in the array at a byte place.
@@ -61,6 +63,28 @@ pub fn last_at(s: &[u8], at: BytePlace) -> Lba
     ensures { λ r. ⌜ r .0 ≡ lastAt (now (s .entry)) (at .0) ⌝ }
 {
     Lba(units::inner::u64_at(s, at.0 + 40))
+}
+
+fn bit(yes: bool) -> u64
+    ensures { λ r. ⌜ (r ≡ bit yes) × (r ≤ 1) ⌝ }
+{
+    if yes { 1 } else { 0 }
+}
+
+// The 64 bits of flags whose reserved part has its place.
+pub fn joined(f: Flags) -> u64
+    requires { ⌜ Joins f ⌝ }
+    ensures { λ r. ⌜ r ≡ joined f ⌝ }
+{
+    let low = bit(f.required) + 2 * bit(f.no_block_io) + 4 * bit(f.legacy_bootable);
+    low + 8 * f.reserved + 0x1_0000_0000_0000 * (f.owner as u64)
+}
+
+// Whether the reserved part of flags needs more than 45 bits: 28.
+pub fn too_wide(f: Flags) -> bool
+    ensures { λ r. ⌜ r ≡ tooWide f ⌝ }
+{
+    0x2000_0000_0000 <= f.reserved
 }
 
 // The 36 units of a name, as they stand.
@@ -113,7 +137,7 @@ pub fn entry_at(s: &[u8], at: usize) -> Partition
     let part_guid = units::inner::guid_at(s, at + 16);
     let first_lba = Lba(units::inner::u64_at(s, at + 32));
     let last_lba = Lba(units::inner::u64_at(s, at + 40));
-    let flags = units::inner::u64_at(s, at + 48);
+    let flags = Flags::of_bits(units::inner::u64_at(s, at + 48));
     let name = clear_name(units_at(s, at + 56));
     Partition {
         part_type_guid,
@@ -138,42 +162,51 @@ fn put_units(s: &mut [u8], at: usize, name: [u16; 36])
 
 // The record's 128 bytes, stored at place at.
 pub fn put_entry(s: &mut [u8], at: usize, p: Partition)
-    requires { ⌜ at + 128 ≤ length (now s) ⌝ }
+    requires { ⌜ Joins (p .flags) × (at + 128 ≤ length (now s)) ⌝ }
     ensures { λ _. ⌜ now (s .exit) ≡ sets (now (s .entry)) at (entryBytes p) ⌝ }
 {
     let t = p.part_type_guid;
     let g = p.part_guid;
     let first = p.first_lba;
     let last = p.last_lba;
+    let flags = p.flags;
     let name = p.name;
     units::inner::put_guid(s, at, t);
     units::inner::put_guid(s, at + 16, g);
     units::inner::put_num(s, at + 32, 8, first.0);
     units::inner::put_num(s, at + 40, 8, last.0);
-    units::inner::put_num(s, at + 48, 8, p.flags);
+    units::inner::put_num(s, at + 48, 8, joined(flags));
     put_units(s, at + 56, name);
 }
 
-// The 128 bytes of a record, its name cleared.
-pub fn named_bytes(p: Partition) -> [u8; 128]
-    ensures { λ r. ⌜ (r ≡ entryBytes (named p)) × (length r ≡ 128) ⌝ }
+// The 128 bytes of a record as put stores it: its name cleared, and no reserved flag.
+pub fn tidied_bytes(p: Partition) -> [u8; 128]
+    ensures { λ r. ⌜ (r ≡ entryBytes (tidied p)) × (length r ≡ 128) ⌝ }
 {
     let part_type_guid = p.part_type_guid;
     let part_guid = p.part_guid;
     let first_lba = p.first_lba;
     let last_lba = p.last_lba;
+    let f = p.flags;
+    let flags = Flags {
+        reserved: 0,
+        owner: f.owner,
+        required: f.required,
+        no_block_io: f.no_block_io,
+        legacy_bootable: f.legacy_bootable,
+    };
     let raw = p.name;
     let name = clear_name(raw);
-    let cleared = Partition {
+    let tidy = Partition {
         part_type_guid,
         part_guid,
         first_lba,
         last_lba,
-        flags: p.flags,
+        flags,
         name,
     };
     let mut e = [0u8; 128];
-    put_entry(&mut e, 0, cleared);
+    put_entry(&mut e, 0, tidy);
     e
 }
 
@@ -192,6 +225,16 @@ pub fn fit(out: &mut [u8], src: &[u8])
     }
 }
 
+// The record's 128 bytes, cut or filled with zeros to the length of out.
+pub fn put_fitted(out: &mut [u8], p: Partition)
+    requires { ⌜ Joins (p .flags) ⌝ }
+    ensures { λ _. ⌜ now (out .exit) ≡ fitted (length (now (out .entry))) (entryBytes p) ⌝ }
+{
+    let mut bytes = [0u8; 128];
+    put_entry(&mut bytes, 0, p);
+    fit(out, &bytes);
+}
+
 // The place `offset` bytes after a place, if `n` bytes from there on end below 2^64: 3.
 fn run_place(base: BytePlace, offset: usize, n: usize) -> Placed
     ensures { λ r. ⌜ placedMeans r ≡ runPlace (base .0) offset n ⌝ }
@@ -205,16 +248,24 @@ fn run_place(base: BytePlace, offset: usize, n: usize) -> Placed
     }
 }
 
-// Where entry `index` of an array that starts at a block stands, if `count` entries from there on end below 2^64: 1, 7, 3.
-pub fn device_place(start: Lba, index: u64, b: u64, entry_size: u32, count: u64) -> Placed
-    ensures { λ r. ⌜ placedMeans r ≡ devicePlace (start .0) index b «entry_size» count ⌝ }
+// The sizes of a block and of an entry: 1, 7.
+fn device_sizes(b: u64, entry_size: u32) -> Verdict
+    ensures { λ r. ⌜ verdictMeans r ≡ deviceSizes b «entry_size» ⌝ }
 {
     if !units::good_block_size(b) {
-        return Placed::Refused(Refusal::BadBlockSize);
+        return Verdict::Refused(Refusal::BadBlockSize);
     }
     if entry_size == 0 || 4096 < entry_size {
-        return Placed::Refused(Refusal::BadEntrySize);
+        return Verdict::Refused(Refusal::BadEntrySize);
     }
+    Verdict::Accepted
+}
+
+// Where entry `index` of an array that starts at a block stands, if `count` entries from there on end below 2^64: 3.
+fn device_run(start: Lba, index: u64, b: u64, entry_size: u32, count: u64) -> Placed
+    requires { ⌜ (goodSize b ≡ true) × (1 ≤ «entry_size») ⌝ }
+    ensures { λ r. ⌜ placedMeans r ≡ runPlace (start .0 * b) (index * «entry_size») (count * «entry_size») ⌝ }
+{
     let size = entry_size as u64;
     let most = 0xFFFF_FFFF_FFFF_FFFF / size;
     if most < index || most < count {
@@ -225,6 +276,31 @@ pub fn device_place(start: Lba, index: u64, b: u64, entry_size: u32, count: u64)
     match start.place(b) {
         Placed::Refused(w) => Placed::Refused(w),
         Placed::At(base) => run_place(base, offset as usize, n as usize),
+    }
+}
+
+// The same after the sizes: 1, 7, 3.
+pub fn device_place(start: Lba, index: u64, b: u64, entry_size: u32, count: u64) -> Placed
+    ensures { λ r. ⌜ placedMeans r ≡ devicePlace (start .0) index b «entry_size» count ⌝ }
+{
+    match device_sizes(b, entry_size) {
+        Verdict::Refused(w) => Placed::Refused(w),
+        Verdict::Accepted => device_run(start, index, b, entry_size, count),
+    }
+}
+
+// The same of one entry with its flags: 1, 7, 28, 3.
+pub fn entry_device(f: Flags, start: Lba, index: u64, b: u64, entry_size: u32) -> Placed
+    ensures { λ r. ⌜ placedMeans r ≡ entryDevice f (start .0) index b «entry_size» ⌝ }
+{
+    match device_sizes(b, entry_size) {
+        Verdict::Refused(w) => Placed::Refused(w),
+        Verdict::Accepted => {
+            if too_wide(f) {
+                return Placed::Refused(Refusal::ReservedFlag);
+            }
+            device_run(start, index, b, entry_size, 1)
+        }
     }
 }
 

@@ -1,4 +1,4 @@
-// A partition entry by value: read from its 128 bytes, written into a lent buffer or into an image, and asked for in a header's array.
+// A partition entry by value, its flags by name: read from its 128 bytes, written into a lent buffer or into an image, and asked for in a header's array.
 // Here stand the public calls: each takes every image and every number. `inner` has the leaves for our own crates.
 pub mod inner;
 
@@ -13,16 +13,32 @@ use units::Stored;
 use units::Verdict;
 ghost use mathlib.Core.Path.{_≡_};
 ghost use mathlib.Core.Bool.{not};
-ghost use lib.ListN.{length};
 ghost use Rattle.units.specs.Answer.{Ends};
 ghost use Rattle.units.specs.Guids.{isNil};
 ghost use Rattle.units.specs.Places.{placeOf};
-ghost use Rattle.units.specs.Meanings.{placedMeans, storedMeans};
-ghost use Rattle.partition.specs.Format.{entryAt, entryBytes, zeroPartition, fitted};
+ghost use Rattle.units.specs.Meanings.{placedMeans, storedMeans, verdictMeans};
+ghost use Rattle.partition.specs.Flags.{flagsOf, bitsOf};
+ghost use Rattle.partition.specs.Format.{entryAt, zeroPartition};
 ghost use Rattle.partition.specs.Lengths.{sectorsLen, bytesLen};
-ghost use Rattle.partition.specs.Device.{entryStored, zerosStored};
+ghost use Rattle.partition.specs.Device.{entryWritten, entryStored, zerosStored};
 ghost use Rattle.partition.specs.Array.{partitionRead, partitionCount, partitionAfter, readingOf};
-ghost use Rattle.partition.specs.Meanings.{lengthMeans, readMeans, countMeans, nextMeans};
+ghost use Rattle.partition.specs.Meanings.{bitsMeans, lengthMeans, readMeans, countMeans, nextMeans};
+
+// An entry's attributes (UEFI 2.10, 5.3.3, table 5.8): bits 3 to 47 as a number, bits 48 to 63 for the owner of the type, bits 0, 1 and 2.
+#[repr(C)]
+pub struct Flags {
+    pub reserved: u64,
+    pub owner: u16,
+    pub required: bool,
+    pub no_block_io: bool,
+    pub legacy_bootable: bool,
+}
+
+// The 64 bits of flags, or 28.
+pub enum FlagBits {
+    Bits(u64),
+    Refused(Refusal),
+}
 
 // An entry's record (UEFI 2.10, 5.3.3). The name is 36 raw 16-bit units.
 #[repr(C)]
@@ -31,7 +47,7 @@ pub struct Partition {
     pub part_guid: Guid,
     pub first_lba: Lba,
     pub last_lba: Lba,
-    pub flags: u64,
+    pub flags: Flags,
     pub name: [u16; 36],
 }
 
@@ -58,6 +74,31 @@ pub enum NextPartition {
     Refused(Refusal),
 }
 
+impl Flags {
+    // The flags in 64 bits, whatever they are.
+    pub fn of_bits(bits: u64) -> Flags
+        ensures { λ r. ⌜ r ≡ flagsOf bits ⌝ }
+    {
+        Flags {
+            reserved: bits / 8 % 0x2000_0000_0000,
+            owner: (bits / 0x1_0000_0000_0000) as u16,
+            required: bits % 2 == 1,
+            no_block_io: bits / 2 % 2 == 1,
+            legacy_bootable: bits / 4 % 2 == 1,
+        }
+    }
+
+    // The 64 bits: 28 if the reserved part needs more than 45.
+    pub fn bits(self) -> FlagBits
+        ensures { λ r. ⌜ bitsMeans r ≡ bitsOf self ⌝ }
+    {
+        if inner::too_wide(self) {
+            return FlagBits::Refused(Refusal::ReservedFlag);
+        }
+        FlagBits::Bits(inner::joined(self))
+    }
+}
+
 impl Partition {
     // The unused entry, whose bytes are all zero.
     pub fn zero() -> Partition
@@ -68,7 +109,7 @@ impl Partition {
             part_guid: Guid::nil(),
             first_lba: Lba(0),
             last_lba: Lba(0),
-            flags: 0,
+            flags: Flags::of_bits(0),
             name: [0; 36],
         }
     }
@@ -80,13 +121,16 @@ impl Partition {
         inner::entry_at(bytes, 0)
     }
 
-    // The record's 128 bytes, cut or filled with zeros to the buffer's length.
-    pub fn write_bytes(self, out: &mut [u8])
-        ensures { λ _. ⌜ now (out .exit) ≡ fitted (length (now (out .entry))) (entryBytes self) ⌝ }
+    // The record's 128 bytes, cut or filled with zeros to the buffer's length: 28 whatever that is.
+    pub fn write_bytes(self, out: &mut [u8]) -> Verdict
+        ensures { λ r. ⌜ Ends (entryWritten (now (out .entry)) self) (verdictMeans r) (now (out .exit)) ⌝ }
     {
-        let mut bytes = [0u8; 128];
-        inner::put_entry(&mut bytes, 0, self);
-        inner::fit(out, &bytes);
+        let flags = self.flags;
+        if inner::too_wide(flags) {
+            return Verdict::Refused(Refusal::ReservedFlag);
+        }
+        inner::put_fitted(out, self);
+        Verdict::Accepted
     }
 
     // Whether the type is not all zero.
@@ -138,7 +182,7 @@ impl Partition {
         first.place(b)
     }
 
-    // Stores the record as entry `index` of an array of entries of entry_size bytes that starts at a block: 1, 7, 3, 2.
+    // Stores the record as entry `index` of an array of entries of entry_size bytes that starts at a block: 1, 7, 28, 3, 2.
     pub fn write_to_device(
         self,
         img: &mut [u8],
@@ -150,14 +194,15 @@ impl Partition {
         ensures { λ r. ⌜ Ends (entryStored (now (img .entry)) self index (start .0) b «entry_size») (storedMeans r) (now (img .exit)) ⌝ }
     {
         let size = entry_size as usize;
-        match inner::device_place(start, index, b, entry_size, 1) {
+        let flags = self.flags;
+        match inner::entry_device(flags, start, index, b, entry_size) {
             Placed::Refused(w) => Stored::Refused(w),
             Placed::At(at) => {
                 if !units::is_inside(img.len(), at, size) {
                     return Stored::Refused(Refusal::Short);
                 }
                 let a = at.0;
-                self.write_bytes(&mut img[a..a + size]);
+                inner::put_fitted(&mut img[a..a + size], self);
                 Stored::Bytes(size)
             }
         }

@@ -3,6 +3,7 @@ use crate::tape::Args;
 use crate::told;
 use crate::told::Answer;
 use header::Header;
+use partition::Flags;
 use partition::Length;
 use partition::NextPartition;
 use partition::Partition;
@@ -26,7 +27,7 @@ fn record_at(s: &[u8], at: usize) -> Partition
     let part_guid = units::inner::guid_at(s, at + 16);
     let first_lba = Lba(units::inner::u64_at(s, at + 32));
     let last_lba = Lba(units::inner::u64_at(s, at + 40));
-    let flags = units::inner::u64_at(s, at + 48);
+    let flags = Flags::of_bits(units::inner::u64_at(s, at + 48));
     let name = partition::inner::units_at(s, at + 56);
     Partition {
         part_type_guid,
@@ -44,7 +45,7 @@ fn put_row(out: &mut [u8], at: usize, slot: Slot, r: PartitionRead)
 {
     let p = r.partition;
     units::inner::put_num(out, at, 4, slot.0 as u64);
-    partition::inner::put_entry(out, at + 4, p);
+    p.write_bytes(&mut out[at + 4..at + 132]);
 }
 
 // The first present entry after a slot, as a row at a place. Answers its slot, or 0 where there is none.
@@ -183,7 +184,7 @@ pub fn lengths(args: &Args) -> Answer {
         part_guid: Guid::nil(),
         first_lba: Lba(units::inner::u64_at(args, 0)),
         last_lba: Lba(units::inner::u64_at(args, 8)),
-        flags: 0,
+        flags: Flags::of_bits(0),
         name: [0; 36],
     };
     let b = units::inner::u64_at(args, 16);

@@ -10,8 +10,10 @@ use Rattle.units.specs.Answer.{Answer, Ends}
 use Rattle.units.specs.Bytes.{num, bytes}
 use Rattle.units.proofs.Lists.{sets-then, and-then}
 use Rattle.units.proofs.Laws.{length-bytes, num-here}
+use Rattle.partition.specs.Flags.{Joins}
 use Rattle.partition.specs.Format.{entryAt, entryBytes}
 use Rattle.partition.specs.Array.{entryPlace}
+use Rattle.partition.proofs.FlagLaws.{flags-join}
 use Rattle.partition.proofs.Laws as partition
 use Rattle.rows.specs.declared.Entry.{Entry}
 use Rattle.rows.specs.declared.inner.Plan.{Plan}
@@ -35,6 +37,11 @@ module _ (e : Entry) where
 -- a record that was read has 36 units in its name, so its bytes are 128
 record-length : (xs : List ℕ) (at : ℕ) → length (entryBytes (entryAt xs at)) ≡ 128
 record-length xs at = partition.length-entry (entryAt xs at) (partition.length-cleared _ ∙ partition.length-units 36 xs (at + 56))
+
+-- and the flags that were read can be joined again
+pub row-joins : (xs : List ℕ) (p : Plan) (s : Slot) {e : Entry} → e ≡ entryBy xs p s → Joins (e .partition .flags)
+unfolding entryOf
+row-joins xs p s f = rw f (flags-join _)
 
 pub row-length : (xs : List ℕ) (p : Plan) (s : Slot) → length (rowBytes (entryBy xs p s)) ≡ 136
 unfolding rowBytes entryOf

@@ -16,6 +16,7 @@ ghost use lib.ListN.{length};
 ghost use lib.Seq.{sets};
 ghost use Rattle.units.specs.Answer.{accepted, Ends};
 ghost use Rattle.units.specs.Places.{insideOrEmpty};
+ghost use Rattle.partition.specs.Flags.{Joins};
 ghost use Rattle.partition.specs.Array.{entryPlace};
 ghost use Rattle.partition.specs.Meanings.{countMeans};
 ghost use Rattle.rows.specs.Row.{presentEntries, rowOutcome, RowEnds};
@@ -146,7 +147,7 @@ pub fn fill(img: &[u8], p: Plan, row: &mut [Entry]) -> PartitionCount
 
 // One row in bytes, stored at a place: the slot in 8, least first, and then the record's 128.
 fn put_row(out: &mut [u8], at: BytePlace, e: Entry)
-    requires { ⌜ at .0 + 136 ≤ length (now out) ⌝ }
+    requires { ⌜ Joins (e .partition .flags) × (at .0 + 136 ≤ length (now out)) ⌝ }
     ensures { λ _. ⌜ now (out .exit) ≡ sets (now (out .entry)) (at .0) (rowBytes e) ⌝ }
 {
     let a = at.0;

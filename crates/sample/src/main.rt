@@ -1,6 +1,7 @@
 // Writes a sample card of 128 blocks of 512 bytes to standard output: laid, with a map, its roads and notes in slots 1 to 3.
 // The file `stdout` beside the folder `src` was made by tests/example/make_card.py, which shares no code with this library.
 // Output that cannot be written is said on standard error.
+use partition::Flags;
 use partition::Partition;
 use partition::PartitionCount;
 use units::Guid;
@@ -55,7 +56,7 @@ fn record(slot: u8, from: u64, to: u64, text: &[u8]) -> Partition {
         part_guid: sample_guid(slot),
         first_lba: Lba(from),
         last_lba: Lba(to),
-        flags: 0,
+        flags: Flags::of_bits(0),
         name: name_of(text),
     }
 }

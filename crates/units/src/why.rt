@@ -105,6 +105,12 @@ pub const PAST_PARTITION: Why = Why {
     place: 0,
 };
 
+pub const RESERVED_FLAG: Why = Why {
+    number: 28,
+    slot: Slot(0),
+    place: 0,
+};
+
 impl Why {
     // The refusal of document 02 by its name; the last name for a number that is none of theirs.
     fn later_refusal(self) -> Refusal

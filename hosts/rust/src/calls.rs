@@ -67,7 +67,7 @@ impl<'image> Card<'image> {
 
     /// Puts a record into a slot of both tables, in place of what the slot held. No byte of a partition changes.
     ///
-    /// Refused as [`open`](Card::open) is, then by 18, 19, 20, 21, 22, 25.
+    /// Refused as [`open`](Card::open) is, then by 18, 19, 20, 21, 22, 25, 28. A record that was read with reserved flags is refused by 28 until they are taken out.
     pub fn put(&mut self, slot: u32, record: &Record) -> Result<(), Refusal> {
         let (image, b) = (&mut *self.image, self.block_size.bytes());
         // SAFETY: the pointer and the length are those of one slice that only this call has; a slice's pointer is not null, also where it is empty.
@@ -179,7 +179,7 @@ pub struct Listing {
 }
 
 fn entry(row: ffi::card_row) -> Entry {
-    Entry { slot: row.slot as u32, record: Record::from_c(row.partition) }
+    Entry { slot: row.slot as u32, record: Record::from_entry(row.entry) }
 }
 
 impl Iterator for Listing {

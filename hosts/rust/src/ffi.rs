@@ -39,7 +39,11 @@ const _: () = assert!(size_of::<bool>() == size_of::<u8>());
 
 structs! {
     gpt_guid 16 { 0 time_low: u32, 4 time_mid: u16, 6 time_high: u16, 8 tail: [u8; 8] }
-    gpt_partition 128 { 0 part_type_guid: gpt_guid, 16 part_guid: gpt_guid, 32 first_lba: u64, 40 last_lba: u64, 48 flags: u64, 56 name: [u16; 36] }
+    gpt_flags 16 { 0 reserved: u64, 8 owner: u16, 10 required: u8, 11 no_block_io: u8, 12 legacy_bootable: u8 }
+    gpt_partition 136 {
+        0 part_type_guid: gpt_guid, 16 part_guid: gpt_guid, 32 first_lba: u64, 40 last_lba: u64, 48 flags: gpt_flags, 64 name: [u16; 36]
+    }
+    gpt_entry 128 { 0 part_type_guid: gpt_guid, 16 part_guid: gpt_guid, 32 first_lba: u64, 40 last_lba: u64, 48 flags: u64, 56 name: [u16; 36] }
     gpt_revision 4 { 0 major: u16, 2 minor: u16 }
     gpt_header 88 {
         0 revision: gpt_revision, 4 header_size_le: u32, 8 crc32: u32, 12 reserved: u32, 16 current_lba: u64, 24 backup_lba: u64,
@@ -57,14 +61,15 @@ structs! {
     gpt_stored 16 { 0 number: u32, 8 bytes: u64 }
     gpt_count 8 { 0 number: u32, 4 count: u32 }
     gpt_next 8 { 0 number: u32, 4 slot: u32 }
-    gpt_slot_read 136 { 0 number: u32, 4 present: u8, 8 partition: gpt_partition }
-    card_used_read 144 { 0 number: u32, 4 found: u8, 8 slot: u32, 16 partition: gpt_partition }
-    card_row 136 { 0 slot: u64, 8 partition: gpt_partition }
+    gpt_slot_read 144 { 0 number: u32, 4 present: u8, 8 partition: gpt_partition }
+    card_used_read 152 { 0 number: u32, 4 found: u8, 8 slot: u32, 16 partition: gpt_partition }
+    card_row 136 { 0 slot: u64, 8 entry: gpt_entry }
     gpt_header_read 96 { 0 number: u32, 8 header: gpt_header }
     gpt_block 16 { 0 number: u32, 8 lba: u64 }
     gpt_sum 8 { 0 number: u32, 4 sum: u32 }
     gpt_header_written 104 { 0 number: u32, 8 bytes: u64, 16 header: gpt_header }
-    gpt_entry_read 136 { 0 number: u32, 8 partition: gpt_partition }
+    gpt_flag_bits 16 { 0 number: u32, 8 bits: u64 }
+    gpt_entry_read 144 { 0 number: u32, 8 partition: gpt_partition }
     gpt_length 16 { 0 number: u32, 8 length: u64 }
     gpt_place 16 { 0 number: u32, 8 place: u64 }
     gpt_mbr_read 516 { 0 number: u32, 4 mbr: gpt_mbr }
@@ -101,8 +106,10 @@ functions! {
     fn gpt_settings_new(guid: gpt_guid) -> gpt_settings;
     fn gpt_build(settings: gpt_settings, b: u64) -> gpt_header_read;
     fn gpt_build_from_header(header: gpt_header, b: u64) -> gpt_header_read;
+    fn gpt_flags_of(bits: u64) -> gpt_flags;
+    fn gpt_flags_bits(flags: gpt_flags) -> gpt_flag_bits;
     fn gpt_entry_from_bytes(bytes: *const u8, bytes_len: usize) -> gpt_entry_read;
-    fn gpt_entry_to_bytes(out: *mut u8, out_len: usize, partition: gpt_partition);
+    fn gpt_entry_to_bytes(out: *mut u8, out_len: usize, partition: gpt_partition) -> u32;
     fn gpt_is_used(partition: gpt_partition) -> u8;
     fn gpt_sectors_len(partition: gpt_partition) -> gpt_length;
     fn gpt_bytes_len(partition: gpt_partition, b: u64) -> gpt_length;
@@ -134,7 +141,7 @@ impl card_row {
     /// A row of zeros, to lend to `card_list`.
     pub const ZERO: card_row = {
         let nil = gpt_guid { time_low: 0, time_mid: 0, time_high: 0, tail: [0; 8] };
-        card_row { slot: 0, partition: gpt_partition { part_type_guid: nil, part_guid: nil, first_lba: 0, last_lba: 0, flags: 0, name: [0; 36] } }
+        card_row { slot: 0, entry: gpt_entry { part_type_guid: nil, part_guid: nil, first_lba: 0, last_lba: 0, flags: 0, name: [0; 36] } }
     };
 }
 

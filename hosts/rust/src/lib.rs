@@ -42,5 +42,5 @@ mod repository;
 
 pub use calls::{check, crc32_next, get, list, BlockSize, Card, Listing, FRESH, SLOTS};
 pub use guid::{Guid, GuidError};
-pub use record::{Entry, Name, NameError, Record};
+pub use record::{Entry, Flags, Name, NameError, Record};
 pub use refusal::Refusal;

@@ -1,5 +1,6 @@
-//! What a slot holds: the record of a partition, and its name.
-use crate::{ffi, Guid};
+//! What a slot holds: the record of a partition, its flags and its name.
+use crate::refusal::accepted;
+use crate::{ffi, Guid, Refusal};
 use std::{error, fmt, str::FromStr};
 
 /// A partition's name: at most 36 UTF-16 units, ended by the first zero.
@@ -117,6 +118,52 @@ impl fmt::Display for NameError {
 
 impl error::Error for NameError {}
 
+/// The flags of a partition by name, as UEFI divides the 64 bits of an entry.
+#[derive(Clone, Copy, Debug, Default, PartialEq, Eq, Hash)]
+pub struct Flags {
+    /// Bit 0: the machine needs the partition.
+    pub required: bool,
+    /// Bit 1: firmware makes no block I/O protocol for it.
+    pub no_block_io: bool,
+    /// Bit 2: a legacy BIOS may boot from it.
+    pub legacy_bootable: bool,
+    /// Bits 3 to 47 as a number, so that bit 3 alone is 1. UEFI keeps them zero, and [`put`](crate::Card::put) refuses any other.
+    pub reserved: u64,
+    /// Bits 48 to 63, for the owner of the partition's type.
+    pub owner: u16,
+}
+
+impl Flags {
+    /// No flags.
+    pub const NONE: Flags = Flags { required: false, no_block_io: false, legacy_bootable: false, reserved: 0, owner: 0 };
+
+    /// The flags in 64 bits, whatever they are.
+    pub fn from_bits(bits: u64) -> Flags {
+        // SAFETY: the call takes and gives numbers alone.
+        Flags::from_c(unsafe { ffi::gpt_flags_of(bits) })
+    }
+
+    /// The 64 bits. Those of flags that were read are the bits that stood there.
+    ///
+    /// Refused by 28 if the reserved part needs more than 45 bits.
+    pub fn bits(self) -> Result<u64, Refusal> {
+        // SAFETY: the call takes and gives numbers alone, and each yes/no is 0 or 1.
+        let answer = unsafe { ffi::gpt_flags_bits(self.to_c()) };
+        accepted(answer.number, 0)?;
+        Ok(answer.bits)
+    }
+
+    fn to_c(self) -> ffi::gpt_flags {
+        let Flags { required, no_block_io, legacy_bootable, reserved, owner } = self;
+        ffi::gpt_flags { reserved, owner, required: required.into(), no_block_io: no_block_io.into(), legacy_bootable: legacy_bootable.into() }
+    }
+
+    fn from_c(flags: ffi::gpt_flags) -> Flags {
+        let ffi::gpt_flags { reserved, owner, required, no_block_io, legacy_bootable } = flags;
+        Flags { required: required != 0, no_block_io: no_block_io != 0, legacy_bootable: legacy_bootable != 0, reserved, owner }
+    }
+}
+
 /// A partition, as an entry of the table describes it. Its fields take every value; [`put`](crate::Card::put) decides whether the card does.
 #[derive(Clone, Copy, Debug, PartialEq, Eq, Hash)]
 pub struct Record {
@@ -128,8 +175,8 @@ pub struct Record {
     pub first: u64,
     /// Its last block, which is still its own.
     pub last: u64,
-    /// Its attribute bits.
-    pub flags: u64,
+    /// Its flags.
+    pub flags: Flags,
     /// Its name.
     pub name: Name,
 }
@@ -137,7 +184,7 @@ pub struct Record {
 impl Record {
     /// A record without flags. Only the name is tested here.
     pub fn new(type_guid: Guid, guid: Guid, first: u64, last: u64, name: &str) -> Result<Record, NameError> {
-        Ok(Record { type_guid, guid, first, last, flags: 0, name: Name::new(name)? })
+        Ok(Record { type_guid, guid, first, last, flags: Flags::NONE, name: Name::new(name)? })
     }
 
     pub(crate) fn to_c(self) -> ffi::gpt_partition {
@@ -146,7 +193,7 @@ impl Record {
             part_guid: self.guid.to_c(),
             first_lba: self.first,
             last_lba: self.last,
-            flags: self.flags,
+            flags: self.flags.to_c(),
             name: *self.name.raw(),
         }
     }
@@ -157,8 +204,19 @@ impl Record {
             guid: Guid::from_c(partition.part_guid),
             first: partition.first_lba,
             last: partition.last_lba,
-            flags: partition.flags,
+            flags: Flags::from_c(partition.flags),
             name: Name::from_raw(partition.name),
+        }
+    }
+
+    pub(crate) fn from_entry(entry: ffi::gpt_entry) -> Record {
+        Record {
+            type_guid: Guid::from_c(entry.part_type_guid),
+            guid: Guid::from_c(entry.part_guid),
+            first: entry.first_lba,
+            last: entry.last_lba,
+            flags: Flags::from_bits(entry.flags),
+            name: Name::from_raw(entry.name),
         }
     }
 }

@@ -1,5 +1,5 @@
 //! The card calls one by one: what they accept, each refusal that they can give, and that a refused call changes no byte.
-use card::{check, crc32_next, get, list, BlockSize, Card, Entry, Guid, GuidError, Name, NameError, Record, Refusal, FRESH, SLOTS};
+use card::{check, crc32_next, get, list, BlockSize, Card, Entry, Flags, Guid, GuidError, Name, NameError, Record, Refusal, FRESH, SLOTS};
 use BlockSize::{B4096, B512};
 
 mod repository;
@@ -65,7 +65,7 @@ fn a_card_is_laid_filled_listed_and_cleared() {
         let mut card = Card::lay(&mut image, size, DISK).unwrap();
         assert_eq!(card.list().unwrap().len(), 0);
         assert_eq!(card.get(1), Ok(None));
-        let map = Record { flags: 1 << 60, ..record(usable, usable, "map") };
+        let map = Record { flags: Flags { legacy_bootable: true, owner: 1 << 12, ..Flags::NONE }, ..record(usable, usable, "map") };
         card.put(128, &map).unwrap();
         assert_eq!(card.get(128), Ok(Some(map)));
         assert_eq!(card.list().unwrap().collect::<Vec<_>>(), [Entry { slot: 128, record: map }]);
@@ -78,6 +78,54 @@ fn a_card_is_laid_filled_listed_and_cleared() {
         assert_eq!(card.check(), Ok(()));
         assert_eq!(card.block_size(), size);
     }
+}
+
+/// Numbers from UEFI's table of attributes, with their names written down by hand.
+#[test]
+fn flags_are_split_and_joined() {
+    let none = Flags::NONE;
+    let named = [
+        (0, none),
+        (1, Flags { required: true, ..none }),
+        (2, Flags { no_block_io: true, ..none }),
+        (4, Flags { legacy_bootable: true, ..none }),
+        (8, Flags { reserved: 1, ..none }),
+        (1 << 47, Flags { reserved: 1 << 44, ..none }),
+        (1 << 48, Flags { owner: 1, ..none }),
+        (1 << 63 | 1, Flags { required: true, owner: 0x8000, ..none }),
+        (u64::MAX, Flags { required: true, no_block_io: true, legacy_bootable: true, reserved: (1 << 45) - 1, owner: 0xffff }),
+    ];
+    for (bits, flags) in named {
+        assert_eq!((Flags::from_bits(bits), flags.bits()), (flags, Ok(bits)));
+    }
+    assert_eq!(Flags { reserved: 1 << 45, ..none }.bits(), Err(Refusal::ReservedFlag));
+    assert_eq!(Refusal::ReservedFlag.to_string(), "refused 28, ReservedFlag: a flag that UEFI keeps reserved");
+}
+
+/// Another maker's entry with a reserved flag: it is read, another slot's put keeps it, and it is not put back before the flag is taken out.
+#[test]
+fn a_reserved_flag_is_read_and_not_put() {
+    let mut image = laid(B512, 71);
+    Card::open(&mut image, B512).unwrap().put(1, &record(34, 34, "map")).unwrap();
+    for (header, array) in [(1, 2), (70, 38)] {
+        image[array * 512 + 48] = 9;
+        resum(&mut image, B512, header, array);
+    }
+    let mut card = Card::open(&mut image, B512).unwrap();
+    card.put(2, &record(35, 35, "roads")).unwrap();
+    let read = card.get(1).unwrap().unwrap();
+    assert_eq!(read.flags, Flags { required: true, reserved: 1, ..Flags::NONE });
+    assert_eq!(card.list().unwrap().next().unwrap().record, read);
+    refused(&mut image, B512, Refusal::ReservedFlag, |card| card.put(1, &read));
+    let wide = Flags { reserved: u64::MAX, ..Flags::NONE };
+    refused(&mut image, B512, Refusal::ReservedFlag, |card| card.put(3, &Record { flags: wide, ..record(36, 36, "wide") }));
+    refused(&mut image, B512, Refusal::Overlap { slot: 2 }, |card| card.put(3, &Record { flags: wide, ..record(35, 36, "wide") }));
+    refused(&mut image, B512, Refusal::TwinGuid { slot: 2 }, |card| {
+        card.put(3, &Record { flags: wide, guid: record(35, 35, "").guid, ..record(36, 36, "wide") })
+    });
+    let mut card = Card::open(&mut image, B512).unwrap();
+    card.put(1, &Record { flags: Flags { reserved: 0, ..read.flags }, ..read }).unwrap();
+    assert_eq!(card.get(1).unwrap().unwrap().flags, Flags { required: true, ..Flags::NONE });
 }
 
 #[test]
@@ -294,7 +342,8 @@ fn a_sum_goes_on_from_piece_to_piece() {
     for running in [FRESH, 1, 0x89ab_cdef, u32::MAX] {
         assert_eq!(crc32_next(running, b""), running);
     }
-    assert_eq!((crc32_next(1, b"123456789"), crc32_next(u32::MAX, b"123456789")), (0xdc8f_2d65, 0xd202_d277)); // zlib's
+    assert_eq!((crc32_next(1, b"123456789"), crc32_next(u32::MAX, b"123456789")), (0xdc8f_2d65, 0xd202_d277));
+    // zlib's
 }
 
 #[test]

@@ -24,13 +24,23 @@ fn the_builder_gives_the_header_that_lay_writes() {
 #[test]
 fn an_entry_goes_to_the_array_and_comes_back() {
     let mut image = vec![0; 68 * 512];
-    let partition = gpt_partition { part_type_guid: GUID, first_lba: 34, last_lba: 34, ..card_row::ZERO.partition };
+    let flags = gpt_flags { reserved: 0, owner: 0xc7c6, required: 1, no_block_io: 0, legacy_bootable: 1 };
+    let partition = gpt_partition { part_type_guid: GUID, part_guid: GUID, first_lba: 34, last_lba: 34, flags, name: [0; 36] };
+    let nil = gpt_partition { part_type_guid: card_row::ZERO.entry.part_type_guid, ..partition };
     // SAFETY: each pointer and length are those of one slice.
     unsafe {
         assert_eq!(card_put(image.as_mut_ptr(), image.len(), 512, 1, partition).number, 4);
         assert_eq!(gpt_write_entry(image.as_mut_ptr(), image.len(), partition, 1, 2, 512, 128), gpt_stored { number: 0, bytes: 128 });
         assert_eq!(gpt_entry_from_bytes(image[1152..].as_ptr(), 128), gpt_entry_read { number: 0, partition });
-        assert_eq!((gpt_is_used(partition), gpt_is_used(card_row::ZERO.partition)), (1, 0));
+        assert_eq!(gpt_flags_of(0xc7c6_0000_0000_0005), flags);
+        assert_eq!(gpt_flags_bits(flags), gpt_flag_bits { number: 0, bits: 0xc7c6_0000_0000_0005 });
+        assert_eq!(&image[1200..1208], &0xc7c6_0000_0000_0005u64.to_le_bytes());
+        let wide = gpt_partition { flags: gpt_flags { reserved: 1 << 45, ..flags }, ..partition };
+        let mut bytes = [0x77; 128];
+        assert_eq!(gpt_flags_bits(wide.flags), gpt_flag_bits { number: 28, bits: 0 });
+        assert_eq!((gpt_entry_to_bytes(bytes.as_mut_ptr(), 128, wide), bytes), (28, [0x77; 128]));
+        assert_eq!((gpt_entry_to_bytes(bytes.as_mut_ptr(), 128, partition), &bytes[..]), (0, &image[1152..1280]));
+        assert_eq!((gpt_is_used(partition), gpt_is_used(nil)), (1, 0));
         assert_eq!(gpt_bytes_start(partition, 512), gpt_place { number: 0, place: 34 * 512 });
         assert_eq!(gpt_crc32(b"123456789".as_ptr(), 9), 0xcbf4_3926);
         assert_eq!(gpt_crc32_next(gpt_crc32(b"1234".as_ptr(), 4), b"56789".as_ptr(), 5), 0xcbf4_3926);

@@ -1,6 +1,6 @@
 //! Random sequences of calls beside a plain model: a map of slots and the payload's bytes. After each call the answer, the listing and every usable byte are
 //! the model's. The sequences are drawn from fixed seeds, so that a failure comes again.
-use card::{BlockSize, Card, Entry, Guid, Record, Refusal};
+use card::{BlockSize, Card, Entry, Flags, Guid, Record, Refusal};
 use std::collections::BTreeMap;
 
 const STEPS: u32 = 3000;
@@ -39,13 +39,23 @@ impl Dice {
         }
     }
 
+    /// Mostly flags that put takes, else any bits, or a reserved part that no entry has room for.
+    fn flags(&mut self) -> Flags {
+        let flags = Flags::from_bits(self.next());
+        match self.below(10) {
+            0 => flags,
+            1 => Flags { reserved: self.next(), ..flags },
+            _ => Flags { reserved: 0, ..flags },
+        }
+    }
+
     fn record(&mut self, first_usable: u64, last_usable: u64) -> Record {
         let first = self.near(first_usable, last_usable);
         let last = if self.below(10) == 0 { self.near(first_usable, last_usable) } else { first.saturating_add(self.below(6)) };
         let type_guid = if self.below(20) == 0 { Guid::NIL } else { Guid::BASIC_DATA };
         let name = format!("é{:x}", self.next());
         let guid = Guid::from_fields(if self.below(4) == 0 { self.below(8) } else { self.next() } as u32, 1, 2, [3; 8]);
-        Record { flags: self.next(), ..Record::new(type_guid, guid, first, last, &name).unwrap() }
+        Record { flags: self.flags(), ..Record::new(type_guid, guid, first, last, &name).unwrap() }
     }
 }
 
@@ -78,6 +88,9 @@ impl Model {
         }
         if let Some((other, _)) = self.slots.iter().find(|(other, held)| **other != slot && held.guid == record.guid) {
             return Err(Refusal::TwinGuid { slot: *other });
+        }
+        if record.flags.reserved != 0 {
+            return Err(Refusal::ReservedFlag);
         }
         self.slots.insert(slot, *record);
         Ok(())
@@ -153,7 +166,7 @@ fn run(seed: u64, size: BlockSize, blocks: u64) {
         assert_eq!(card.get(asked), Ok(model.slots.get(&asked).copied()));
     }
     let numbers: Vec<u32> = seen.into_keys().collect();
-    assert_eq!(numbers, [0, 18, 19, 20, 21, 22, 23, 24, 25], "the sequence meets every way out");
+    assert_eq!(numbers, [0, 18, 19, 20, 21, 22, 23, 24, 25, 28], "the sequence meets every way out");
 }
 
 #[test]

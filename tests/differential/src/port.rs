@@ -13,12 +13,22 @@ pub struct Guid {
 
 #[repr(C)]
 #[derive(Clone, Copy, Debug, PartialEq, Eq)]
+pub struct Flags {
+    pub reserved: u64,
+    pub owner: u16,
+    pub required: bool,
+    pub no_block_io: bool,
+    pub legacy_bootable: bool,
+}
+
+#[repr(C)]
+#[derive(Clone, Copy, Debug, PartialEq, Eq)]
 pub struct Partition {
     pub part_type_guid: Guid,
     pub part_guid: Guid,
     pub first_lba: u64,
     pub last_lba: u64,
-    pub flags: u64,
+    pub flags: Flags,
     pub name: [u16; 36],
 }
 
@@ -162,7 +172,7 @@ extern "C" {
     pub fn gpt_build(settings: Settings, b: u64) -> HeaderRead;
     pub fn gpt_build_from_header(header: Header, b: u64) -> HeaderRead;
     pub fn gpt_entry_from_bytes(bytes: *const u8, n: usize) -> EntryRead;
-    pub fn gpt_entry_to_bytes(out: *mut u8, n: usize, partition: Partition);
+    pub fn gpt_entry_to_bytes(out: *mut u8, n: usize, partition: Partition) -> u32;
     pub fn gpt_is_used(partition: Partition) -> bool;
     pub fn gpt_sectors_len(partition: Partition) -> Wide;
     pub fn gpt_bytes_len(partition: Partition, b: u64) -> Wide;
@@ -258,6 +268,22 @@ pub fn header_bytes(h: &Header) -> [u8; 84] {
     b
 }
 
+/// The flags in 64 bits, split here and not by the port.
+pub fn flags_of(bits: u64) -> Flags {
+    Flags {
+        reserved: bits >> 3 & ((1 << 45) - 1),
+        owner: (bits >> 48) as u16,
+        required: bits & 1 != 0,
+        no_block_io: bits & 2 != 0,
+        legacy_bootable: bits & 4 != 0,
+    }
+}
+
+/// The 64 bits of flags, joined here and not by the port.
+pub fn flag_bits(f: &Flags) -> u64 {
+    u64::from(f.required) | u64::from(f.no_block_io) << 1 | u64::from(f.legacy_bootable) << 2 | f.reserved << 3 | u64::from(f.owner) << 48
+}
+
 pub fn partition_of(b: &[u8; 128]) -> Partition {
     let mut name = [0; 36];
     for (i, u) in name.iter_mut().enumerate() {
@@ -268,7 +294,7 @@ pub fn partition_of(b: &[u8; 128]) -> Partition {
         part_guid: guid_of(&b[16..32]),
         first_lba: u64_at(b, 32),
         last_lba: u64_at(b, 40),
-        flags: u64_at(b, 48),
+        flags: flags_of(u64_at(b, 48)),
         name,
     }
 }
@@ -279,7 +305,7 @@ pub fn partition_bytes(p: &Partition) -> [u8; 128] {
     b[16..32].copy_from_slice(&guid_bytes(&p.part_guid));
     b[32..40].copy_from_slice(&p.first_lba.to_le_bytes());
     b[40..48].copy_from_slice(&p.last_lba.to_le_bytes());
-    b[48..56].copy_from_slice(&p.flags.to_le_bytes());
+    b[48..56].copy_from_slice(&flag_bits(&p.flags).to_le_bytes());
     for (i, u) in p.name.iter().enumerate() {
         b[56 + 2 * i..58 + 2 * i].copy_from_slice(&u.to_le_bytes());
     }

@@ -166,9 +166,9 @@ pub fn run(case: &Case, img: &mut [u8]) -> Answer {
             }
             Call::EntryToBytes { n, entry } => {
                 let mut out = vec![0x5A; n + 1];
-                gpt_entry_to_bytes(out.as_mut_ptr(), *n, partition_of(entry));
+                let number = gpt_entry_to_bytes(out.as_mut_ptr(), *n, partition_of(entry));
                 let kept = out.pop() == Some(0x5A);
-                Answer { number: if kept { 0 } else { 255 }, values: out }
+                Answer { number: if kept { number } else { 255 }, values: out }
             }
             Call::Lengths { b, entry } => lengths(*b, partition_of(entry)),
             Call::WriteEntry { index, start, b, size, entry } => {

@@ -19,7 +19,7 @@ check-with-requires : tie.Need-check-with-requires
 check-with-requires c κs = c .before .before .pre .0
 
 returns : tie.Need-returns
-returns c = put-checked _ _ _ _ _ (c .before .before .check-with .ensures) (c .if1 .taken)
+returns c = put-checked _ _ _ _ _ _ (c .before .before .check-with .ensures) (c .if1 .taken)
 
 -- an accepted check leaves room
 room : (c : tie.Else1) → let a = c .before .before .before .before .before .args in roomCheck (a .b) (length (a .img .now)) .number ≡ 0
@@ -43,8 +43,8 @@ entry-check-requires c κs =
 returns-2 : tie.Need-returns-2
 returns-2 c =
     let a = c .before .before .before .before .before .before .before .args in
-    put-entry (a .b) (length (a .img .now)) (tables (a .b) (a .img .now)) (a .slot .0) (a .e .now) (c .before .before .before .before .check-with .ensures) (c .before .before .if1 .left)
-    (c .entry-check .ensures ∙ ap (λ (x : Copy). entryCheck (a .b) (length (a .img .now)) (x .array) (a .slot .0) (a .e .now)) (lent-front (a .b) (a .img .now) (room-ok _ _ (room (c .before .before)))))
+    put-entry (a .b) (length (a .img .now)) (tables (a .b) (a .img .now)) (a .slot .0) (a .e .now) (a .reserved) (c .before .before .before .before .check-with .ensures) (c .before .before .if1 .left)
+    (c .entry-check .ensures ∙ ap (λ (x : Copy). entryCheck (a .b) (length (a .img .now)) (x .array) (a .slot .0) (a .e .now) (a .reserved)) (lent-front (a .b) (a .img .now) (room-ok _ _ (room (c .before .before)))))
 
 pub put-check-spec : {M : Type 1} → statement M
 put-check-spec = tie.close (tie.spec check-with-requires returns add-entry-check add-entry-check-2 (λ c. search needs) (λ c. search needs) part-entry-check-end entry-check-requires returns-2)

@@ -30,6 +30,9 @@ add-u64-at-3 c = search needs
 u64-at-requires-3 : tie.Need-u64-at-requires-3
 u64-at-requires-3 c κs = search needs
 
+of-bits-requires : tie.Need-of-bits-requires
+of-bits-requires c κs = search needs
+
 add-units-at : tie.Need-add-units-at
 add-units-at c = search needs
 
@@ -42,11 +45,12 @@ clear-name-requires c κs = search needs
 returns : tie.Need-returns
 returns c =
     rw (
-      c .before .before .before .before .before .before .guid-at .ensures,
-      c .before .before .before .before .before .guid-at2 .ensures,
-      c .before .before .before .before .u64-at .ensures,
-      c .before .before .before .u64-at2 .ensures,
-      c .before .before .u64-at3 .ensures,
+      c .before .before .before .before .before .before .before .guid-at .ensures,
+      c .before .before .before .before .before .before .guid-at2 .ensures,
+      c .before .before .before .before .before .u64-at .ensures,
+      c .before .before .before .before .u64-at2 .ensures,
+      c .before .before .of-bits .ensures,
+      c .before .before .before .u64-at3 .ensures,
       c .clear-name .ensures,
       c .before .units-at .ensures,
     )
@@ -64,6 +68,7 @@ entry-at-spec =
     u64-at-requires-2
     add-u64-at-3
     u64-at-requires-3
+    of-bits-requires
     add-units-at
     units-at-requires
     clear-name-requires

@@ -9,7 +9,7 @@ use Rattle.rows.specs.Plans.{entriesBy}
 use Rattle.rows.specs.declared.Entry.{Entry}
 use Rattle.rows.proofs.Laws.{plan-fits, plan-made, left, left-all}
 use Rattle.rows.specs.RowBytes.{rowsBytes}
-use Rattle.rows.proofs.ByteRows.{next-left, rows-more, rows-none, bytes-ends}
+use Rattle.rows.proofs.ByteRows.{row-joins, next-left, rows-more, rows-none, bytes-ends}
 use borrow.Author.Needs.{needs}
 use Rattle.rows.proofs.inner.fill_bytes.Statement.{statement}
 use Rattle.rows.proofs.inner.fill_bytes.Tie as tie
@@ -55,7 +55,10 @@ mul-t15 : tie.Need-mul-t15 Inv-loop μ-loop
 mul-t15 c = let a = c .before .before .before .before .before .before .before .before .before .args in let h = plan-fits _ (a .p) (c .before .before .before .before .before .before .within .ensures) in search needs
 
 put-row-requires : tie.Need-put-row-requires Inv-loop μ-loop
-put-row-requires c κs = let a = c .before .before .before .before .before .before .before .before .before .args in omega (arith, plan-fits _ (a .p) (c .before .before .before .before .before .before .within .ensures))
+put-row-requires c κs =
+    let a = c .before .before .before .before .before .before .before .before .before .args in
+    let q = c .before .before .before .before .before .before .within in
+    (row-joins (a .img .now) (q .result) _ (c .before .entry-in .ensures), omega (arith, plan-fits _ (a .p) (q .ensures)))
 
 add-i : tie.Need-add-i Inv-loop μ-loop
 add-i c = search needs
