@@ -2,7 +2,7 @@
    protective MBR (gpt_..). The library is libcard.a or libcard.so, which `make lib` writes to target/lib; it is for x86-64.
 
    Every call takes every number and every image of bytes: it ends, and it accepts or refuses by a number from the table below. A refused
-   call changes no byte that was lent to it, and every other field of its answer is zero.
+   call changes no byte that was lent to it, and every field of its answer but the number, and the slot or the place that the number names, is zero.
 
    What a caller owes:
    - A lent slice is a pointer and then a length in bytes. The pointer points to so many bytes and is never null, also where the length is 0.
@@ -249,14 +249,98 @@ CARD_AT(gpt_settings, primary, 48);
 
 /* ---- answers: the number first */
 
-/* slot: the one that 22 and 25 name, else 0. */
+/* Where the card check refused: the place in an answer of a card call. differs is the slot of CARD_PLACE_SLOT, the first one whose 128 bytes differ in the
+   two arrays, else 0. 4, 5, 6 and 16 say the front or the back table, 16 of the entries the front one; 17 says the disk GUID, also where slots differ too, or a slot. */
+enum card_place {
+    CARD_PLACE_NONE = 0,
+    CARD_PLACE_FRONT = 1,
+    CARD_PLACE_BACK = 2,
+    CARD_PLACE_DISK_GUID = 3,
+    CARD_PLACE_SLOT = 4,
+};
+
+/* slot: the one that 22 and 25 name, else 0. place: an enum card_place. */
 typedef struct card_answer {
     uint32_t number;
     uint32_t slot;
+    uint32_t place;
+    uint32_t differs;
 } card_answer;
-CARD_SIZE(card_answer, 8);
+CARD_SIZE(card_answer, 16);
 CARD_AT(card_answer, number, 0);
 CARD_AT(card_answer, slot, 4);
+CARD_AT(card_answer, place, 8);
+CARD_AT(card_answer, differs, 12);
+
+/* bytes: how many were stored. */
+typedef struct card_stored {
+    uint32_t number;
+    uint32_t place;
+    uint32_t differs;
+    uint64_t bytes;
+} card_stored;
+CARD_SIZE(card_stored, 24);
+CARD_AT(card_stored, number, 0);
+CARD_AT(card_stored, place, 4);
+CARD_AT(card_stored, differs, 8);
+CARD_AT(card_stored, bytes, 16);
+
+typedef struct card_count {
+    uint32_t number;
+    uint32_t count;
+    uint32_t place;
+    uint32_t differs;
+} card_count;
+CARD_SIZE(card_count, 16);
+CARD_AT(card_count, number, 0);
+CARD_AT(card_count, count, 4);
+CARD_AT(card_count, place, 8);
+CARD_AT(card_count, differs, 12);
+
+/* slot: the next one, or 0 where there is no more. */
+typedef struct card_next {
+    uint32_t number;
+    uint32_t slot;
+    uint32_t place;
+    uint32_t differs;
+} card_next;
+CARD_SIZE(card_next, 16);
+CARD_AT(card_next, number, 0);
+CARD_AT(card_next, slot, 4);
+CARD_AT(card_next, place, 8);
+CARD_AT(card_next, differs, 12);
+
+/* present: whether the entry has a byte that is not zero. */
+typedef struct card_slot_read {
+    uint32_t number;
+    bool present;
+    uint32_t place;
+    uint32_t differs;
+    gpt_partition partition;
+} card_slot_read;
+CARD_SIZE(card_slot_read, 152);
+CARD_AT(card_slot_read, number, 0);
+CARD_AT(card_slot_read, present, 4);
+CARD_AT(card_slot_read, place, 8);
+CARD_AT(card_slot_read, differs, 12);
+CARD_AT(card_slot_read, partition, 16);
+
+/* found: whether there is such a used slot; where there is none, slot and partition are zero. */
+typedef struct card_used_read {
+    uint32_t number;
+    bool found;
+    uint32_t slot;
+    uint32_t place;
+    uint32_t differs;
+    gpt_partition partition;
+} card_used_read;
+CARD_SIZE(card_used_read, 160);
+CARD_AT(card_used_read, number, 0);
+CARD_AT(card_used_read, found, 4);
+CARD_AT(card_used_read, slot, 8);
+CARD_AT(card_used_read, place, 12);
+CARD_AT(card_used_read, differs, 16);
+CARD_AT(card_used_read, partition, 24);
 
 /* bytes: how many were stored. */
 typedef struct gpt_stored {
@@ -295,19 +379,6 @@ CARD_AT(gpt_slot_read, number, 0);
 CARD_AT(gpt_slot_read, present, 4);
 CARD_AT(gpt_slot_read, partition, 8);
 
-/* found: whether there is such a used slot; where there is none, slot and partition are zero. */
-typedef struct card_used_read {
-    uint32_t number;
-    bool found;
-    uint32_t slot;
-    gpt_partition partition;
-} card_used_read;
-CARD_SIZE(card_used_read, 152);
-CARD_AT(card_used_read, number, 0);
-CARD_AT(card_used_read, found, 4);
-CARD_AT(card_used_read, slot, 8);
-CARD_AT(card_used_read, partition, 16);
-
 /* ---- the card calls */
 
 /* Lays an empty card for a disk GUID: the protective MBR, and both tables with 128 unused slots. No other byte changes.
@@ -317,7 +388,8 @@ card_answer card_lay(uint8_t *img, size_t img_len, uint64_t b, gpt_guid guid);
 /* The card check: both tables are whole, laid out as lay lays them, and say the same; each entry is all zero, or has a type and usable blocks, and no two share a
    block or a partition GUID. Block 0 is not read. A card with one GUID in two used slots is 16 to every card call but card_lay, which drops its slots. To mend it, write one of the entries with
    another GUID in both arrays (gpt_write_entry), and then both headers (gpt_write_primary, gpt_write_backup).
-   1, 8, 10; 4, 5, 16, 6 of the primary table; 4, 5, 16, 6 of the backup; 17; 16. */
+   1, 8, 10; 4, 5, 16, 6 of the primary table, place front; 4, 5, 16, 6 of the backup, place back; 17, place disk GUID or slot; 16, place front. Every call below
+   that has the check's numbers has their places too. */
 card_answer card_check(const uint8_t *img, size_t img_len, uint64_t b);
 
 /* Puts a record into a slot of both tables; what the slot held is replaced, and the name's units after the first zero are cleared.
@@ -331,19 +403,19 @@ card_answer card_clear(uint8_t *img, size_t img_len, uint64_t b, uint32_t slot);
 
 /* Writes bytes into a slot's partition, from a place on that counts from the partition's first byte.
    The check's numbers, then 18, 23, 24. */
-gpt_stored card_write_payload(uint8_t *img, size_t img_len, uint64_t b, uint32_t slot, size_t place, const uint8_t *bytes, size_t bytes_len);
+card_stored card_write_payload(uint8_t *img, size_t img_len, uint64_t b, uint32_t slot, size_t place, const uint8_t *bytes, size_t bytes_len);
 
 /* How many slots are used.
    The check's numbers. */
-gpt_count card_count_used(const uint8_t *img, size_t img_len, uint64_t b);
+card_count card_count_used(const uint8_t *img, size_t img_len, uint64_t b);
 
 /* The first used slot after a slot; 0 stands before the first.
    The check's numbers. */
-gpt_next card_next_used(const uint8_t *img, size_t img_len, uint64_t b, uint32_t after);
+card_next card_next_used(const uint8_t *img, size_t img_len, uint64_t b, uint32_t after);
 
 /* What a slot holds.
    The check's numbers, then 18. */
-gpt_slot_read card_read_slot(const uint8_t *img, size_t img_len, uint64_t b, uint32_t slot);
+card_slot_read card_read_slot(const uint8_t *img, size_t img_len, uint64_t b, uint32_t slot);
 
 /* The k-th used slot, counted from 0, ascending, with its record.
    The check's numbers. */
@@ -361,7 +433,7 @@ CARD_AT(card_row, entry, 8);
 /* The listing into lent bytes, after one check: a card_row for each used slot, ascending, and how many there are. The entry is that of the
    record that card_read_slot gives. The bytes after the last row stay. out is a card_row array, as bytes, or any other bytes.
    The check's numbers, then 15 where out_len is less than 136 times the count. */
-gpt_count card_list(const uint8_t *img, size_t img_len, uint64_t b, uint8_t *out, size_t out_len);
+card_count card_list(const uint8_t *img, size_t img_len, uint64_t b, uint8_t *out, size_t out_len);
 
 /* ---- the ported calls: the check sum and headers */
 

@@ -34,6 +34,8 @@ NOT_RUN = {
     "make uninstall": "the same",
     "sgdisk -u 2:R": "make interop runs it",
     "sgdisk -u SLOT:R": "the same, for slot 2",
+    "sgdisk -A": "make interop runs it, with a slot and a bit",
+    "sgdisk -i": "the same, with a slot",
     "target/stack each": "make boundary runs the program without the word, and what it prints is read off by hand",
     "make rust-outside": "make rust runs it",
     "cargo run --release --bin tape": "make differential runs the same program, which then compares and does not write",

@@ -25,6 +25,12 @@ card.Refused: refused 22, Overlap: a block that another slot has (slot 1)
 Traceback (most recent call last):
   ...
 card.Refused: refused 28, ReservedFlag: a flag that UEFI keeps reserved
+>>> image[68 * 512 - 512] ^= 1
+>>> check(image, 512)
+Traceback (most recent call last):
+  ...
+card.Refused: refused 4, InvalidGptSignature: the back table's header does not begin with EFI PART
+>>> image[68 * 512 - 512] ^= 1
 >>> clear(image, 512, 1)
 >>> listing(image, 512), bytes(image[34 * 512:34 * 512 + 11])
 ([], b'north ridge')
@@ -88,17 +94,39 @@ NUMBERS = {
 }
 
 
-class Refused(Exception):
-    """A call that was refused: its number, and the slot that 22 and 25 name (else 0)."""
+# Where the card check refused, as an answer numbers it.
+NOWHERE, FRONT, BACK, DISK_GUID, SLOT = range(5)
 
-    def __init__(self, number, slot=0):
-        name, meaning = NUMBERS[number]
-        self.number, self.slot, self.name = number, slot, name
-        super().__init__(f"refused {number}, {name}: {meaning}" + (f" (slot {slot})" if slot else ""))
+_OF_TABLE = {
+    4: "the {} table's header does not begin with EFI PART",
+    5: "the {} table's header check sum does not match",
+    6: "the {} table's entry check sum does not match",
+    16: "the {} table is not laid out as a card's",
+}
+
+
+def _meaning(number, slot, place, differs):
+    """The meaning of a refusal, with the slot or the place that it names."""
+    if place == DISK_GUID:
+        return "the two tables have different disk GUIDs"
+    if place == SLOT:
+        return f"the two tables differ, first in slot {differs}"
+    if place:
+        return _OF_TABLE[number].format("front" if place == FRONT else "back")
+    return NUMBERS[number][1] + (f" (slot {slot})" if slot else "")
+
+
+class Refused(Exception):
+    """A call that was refused: its number, the slot that 22 and 25 name (else 0), the place that the card check names (FRONT, BACK, DISK_GUID or SLOT, else
+    NOWHERE), and the slot that differs (0 but for SLOT)."""
+
+    def __init__(self, number, slot=0, place=NOWHERE, differs=0):
+        self.number, self.slot, self.place, self.differs, self.name = number, slot, place, differs, NUMBERS[number][0]
+        super().__init__(f"refused {number}, {self.name}: {_meaning(number, slot, place, differs)}")
 
     def __reduce__(self):
-        """Made again from its number and slot, so that it passes from one process to another."""
-        return type(self), (self.number, self.slot)
+        """Made again from its numbers, so that it passes from one process to another."""
+        return type(self), (self.number, self.slot, self.place, self.differs)
 
 
 @dataclass(frozen=True)
@@ -169,15 +197,15 @@ class _Guid(ctypes.Structure):
 
 
 class _Answer(ctypes.Structure):
-    _fields_ = [("number", ctypes.c_uint32), ("slot", ctypes.c_uint32)]
+    _fields_ = [("number", ctypes.c_uint32), ("slot", ctypes.c_uint32), ("place", ctypes.c_uint32), ("differs", ctypes.c_uint32)]
 
 
 class _Stored(ctypes.Structure):
-    _fields_ = [("number", ctypes.c_uint32), ("bytes", ctypes.c_uint64)]
+    _fields_ = [("number", ctypes.c_uint32), ("place", ctypes.c_uint32), ("differs", ctypes.c_uint32), ("bytes", ctypes.c_uint64)]
 
 
 class _Count(ctypes.Structure):
-    _fields_ = [("number", ctypes.c_uint32), ("count", ctypes.c_uint32)]
+    _fields_ = [("number", ctypes.c_uint32), ("count", ctypes.c_uint32), ("place", ctypes.c_uint32), ("differs", ctypes.c_uint32)]
 
 
 class _Row(ctypes.Structure):
@@ -192,7 +220,7 @@ class _Buffer(ctypes.Structure):
                 ("suboffsets", ctypes.c_void_p), ("internal", ctypes.c_void_p)]
 
 
-for _struct, _size in ((_Flags, 16), (_Bits, 16), (_Record, 136), (_Entry, 128), (_Guid, 16), (_Answer, 8), (_Stored, 16), (_Count, 8), (_Row, 136), (_Buffer, 80)):
+for _struct, _size in ((_Flags, 16), (_Bits, 16), (_Record, 136), (_Entry, 128), (_Guid, 16), (_Answer, 16), (_Stored, 24), (_Count, 16), (_Row, 136), (_Buffer, 80)):
     if ctypes.sizeof(_struct) != _size:
         raise ImportError(f"{_struct.__name__} has {ctypes.sizeof(_struct)} bytes here, and not {_size}: this module is for x86-64")
 
@@ -280,7 +308,7 @@ def _lent(data, what="the image", written=False):
 
 def _take(answer):
     if answer.number:
-        raise Refused(answer.number, getattr(answer, "slot", 0))
+        raise Refused(answer.number, *(getattr(answer, name, 0) for name in ("slot", "place", "differs")))
     return answer
 
 
@@ -332,7 +360,7 @@ def lay(image, block_size, guid):
 
 
 def check(image, block_size):
-    """Raises Refused unless the image is a whole card. 1, 8, 10; 4, 5, 16, 6 of each table; 17; 16 of the entries."""
+    """Raises Refused unless the image is a whole card. 1, 8, 10; 4, 5, 16, 6 of each table, front or back; 17, the disk GUID or a slot; 16 of the entries, front."""
     with _lent(image) as lent:
         _take(_check(*lent, _blocks(block_size)))
 

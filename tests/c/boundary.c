@@ -211,8 +211,60 @@ static void flags(void) {
     KEPT();
 }
 
+/* Every call that begins with the check says the same number and place. */
+#define AT(x, p, d) do { SAME((x).place, p); SAME((x).differs, d); } while (0)
+static void all_at(uint32_t number, uint32_t place, uint32_t differs) {
+    uint8_t rows[136];
+    card_answer a = card_check(img, LEN, BLOCK);
+    SAME(a.number, number);
+    SAME(a.slot, 0);
+    AT(a, place, differs);
+    AT(card_put(img, LEN, BLOCK, 1, some(34, 34)), place, differs);
+    AT(card_clear(img, LEN, BLOCK, 1), place, differs);
+    AT(card_write_payload(img, LEN, BLOCK, 1, 0, rows, 1), place, differs);
+    AT(card_count_used(img, LEN, BLOCK), place, differs);
+    AT(card_next_used(img, LEN, BLOCK, 0), place, differs);
+    AT(card_read_slot(img, LEN, BLOCK, 1), place, differs);
+    AT(card_nth_used(img, LEN, BLOCK, 0), place, differs);
+    AT(card_list(img, LEN, BLOCK, rows, sizeof rows), place, differs);
+}
+
+/* One array or header changed, its sums made right by the ported calls where that is asked for: which table, and where. The image is given back as it was. */
+static void places(void) {
+    gpt_header front = gpt_read_primary_header(img, LEN, BLOCK).header, back = gpt_read_backup_header(img, LEN, BLOCK).header;
+    memcpy(before, img, LEN);
+    img[BLOCK] ^= 1;
+    all_at(CARD_INVALID_GPT_SIGNATURE, CARD_PLACE_FRONT, 0);
+    memcpy(img, before, LEN);
+    img[LEN - BLOCK + 91] ^= 1;
+    all_at(CARD_INVALID_CRC32_CHECKSUM, CARD_PLACE_BACK, 0);
+    memcpy(img, before, LEN);
+    img[(BLOCKS - 33) * BLOCK + 4 * 128 + 127] ^= 1;
+    all_at(CARD_PARTS_CRC, CARD_PLACE_BACK, 0);
+    SAME(gpt_write_backup(img, LEN, back, BLOCK).number, 0);
+    all_at(CARD_DISAGREE, CARD_PLACE_SLOT, 5);
+    img[(BLOCKS - 33) * BLOCK + 127 * 128] ^= 1;
+    SAME(gpt_write_backup(img, LEN, back, BLOCK).number, 0);
+    all_at(CARD_DISAGREE, CARD_PLACE_SLOT, 5);
+    back.disk_guid.time_low ^= 1;
+    SAME(gpt_write_backup(img, LEN, back, BLOCK).number, 0);
+    all_at(CARD_DISAGREE, CARD_PLACE_DISK_GUID, 0);
+    memcpy(img, before, LEN);
+    front.last_usable -= 1;
+    SAME(gpt_write_primary(img, LEN, front, BLOCK).number, 0);
+    all_at(CARD_WRONG_LAYOUT, CARD_PLACE_FRONT, 0);
+    memcpy(img, before, LEN);
+    gpt_partition outside = some(33, 33);
+    store_both(outside, 8);
+    all_at(CARD_WRONG_LAYOUT, CARD_PLACE_FRONT, 0);
+    memcpy(img, before, LEN);
+    AT(card_put(img, LEN, BLOCK, 0, outside), CARD_PLACE_NONE, 0);
+    AT(card_lay(img, LEN, 1, disk), CARD_PLACE_NONE, 0);
+    KEPT();
+}
+
 static void counts(void) {
-    gpt_count n = card_count_used(img, LEN, BLOCK);
+    card_count n = card_count_used(img, LEN, BLOCK);
     SAME(n.number, 0);
     SAME(n.count, 2);
     n = card_count_used(img, 1000, BLOCK);
@@ -226,7 +278,7 @@ static void counts(void) {
 
 static void reads(void) {
     gpt_partition p = some(35, 36), q = some(34, 34);
-    gpt_slot_read r = card_read_slot(img, LEN, BLOCK, 7);
+    card_slot_read r = card_read_slot(img, LEN, BLOCK, 7);
     SAME(r.number, 0);
     SAME(r.present, 1);
     RECORD(r.partition, p);
@@ -257,7 +309,7 @@ static void lists(void) {
     card_row rows[3], old[3];
     memset(rows, 0x5A, sizeof rows);
     memcpy(old, rows, sizeof rows);
-    gpt_count n = card_list(img, LEN, BLOCK, (uint8_t *)rows, 271);
+    card_count n = card_list(img, LEN, BLOCK, (uint8_t *)rows, 271);
     SAME(n.number, CARD_NO_ROOM);
     SAME(n.count, 0);
     BYTES(rows, old, sizeof rows);
@@ -276,7 +328,7 @@ static void lists(void) {
 
 static void payloads(void) {
     memcpy(before, img, LEN);
-    gpt_stored s = card_write_payload(img, LEN, BLOCK, 7, 1021, (const uint8_t *)"fire", 4);
+    card_stored s = card_write_payload(img, LEN, BLOCK, 7, 1021, (const uint8_t *)"fire", 4);
     SAME(s.number, CARD_PAST_PARTITION);
     SAME(s.bytes, 0);
     SAME(card_write_payload(img, LEN, BLOCK, 7, SIZE_MAX, (const uint8_t *)"fire", 4).number, CARD_PAST_PARTITION);
@@ -654,6 +706,7 @@ int main(void) {
     puts_two();
     twins();
     flags();
+    places();
     counts();
     reads();
     lists();

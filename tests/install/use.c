@@ -9,7 +9,7 @@ int main(void) {
     if (card_lay(image, sizeof image, 512, (gpt_guid){5, 6, 7, {8}}).number != CARD_ACCEPTED) return 1;
     if (card_put(image, sizeof image, 512, 1, map).number != CARD_ACCEPTED) return 2;
     card_answer second = card_put(image, sizeof image, 512, 2, map);
-    gpt_count used = card_count_used(image, sizeof image, 512);
+    card_count used = card_count_used(image, sizeof image, 512);
     printf("used %u, then refused %u by slot %u\n", used.count, second.number, second.slot);
     return used.number == CARD_ACCEPTED && used.count == 1 && second.number == CARD_OVERLAP && second.slot == 1 ? 0 : 3;
 }

@@ -11,6 +11,8 @@ from units import ALL_32, NIL, Refused, call, need_block_size
 
 SLOTS = 128
 ARRAY = 16384
+# Document 02, 5/13: the places of the card check's refusals, as card.h numbers them; 0 is none.
+FRONT, BACK, DISK_GUID, SLOT = 1, 2, 3, 4
 
 Card = namedtuple("Card", "last guid array usable used")
 
@@ -48,17 +50,23 @@ def card_lay(img, b, guid):
 
 
 def checked_table(img, last, primary, b):
-    """Document 01, Card check: of one table 4, 5, then 16 if any field but GUID and sums differs from what lay would write, then 6."""
-    step = "front" if primary else "back"
-    header = headers.header_at(img, (1 if primary else last) * b, step)
+    """Document 01, Card check: of one table 4, 5, then 16 if any field but GUID and sums differs from what lay would write,
+    then 6. Document 02, 5/13: each says front or back."""
+    step, where = ("front", (FRONT, 0)) if primary else ("back", (BACK, 0))
+    header = headers.header_at(img, (1 if primary else last) * b, step, where)
     laid = laid_header(header.disk_guid, last, primary, b)
     if header._replace(crc32=0, crc32_parts=0) != laid:
-        raise Refused(16, step)
+        raise Refused(16, step, where=where)
     start = laid.part_start * b
     array = bytes(img[start : start + ARRAY])
     if crc32(array) != header.crc32_parts:
-        raise Refused(6, step)
+        raise Refused(6, step, where=where)
     return header, array
+
+
+def wrong_entries(step):
+    """Document 02, 5/13: "16 from the entries counted as front"."""
+    return Refused(16, step, where=(FRONT, 0))
 
 
 def checked_entries(array, first, last):
@@ -67,17 +75,29 @@ def checked_entries(array, first, last):
     used = {slot: entries.record_from(entries.entry_at(array, slot)) for slot in entries.present_slots(array)}
     for record in used.values():
         if not entries.used(record):
-            raise Refused(16, "nil type with bytes")
+            raise wrong_entries("nil type with bytes")
         if record.last_lba < record.first_lba:
-            raise Refused(16, "last below first")
+            raise wrong_entries("last below first")
         if record.first_lba < first or record.last_lba > last:
-            raise Refused(16, "outside usable")
+            raise wrong_entries("outside usable")
     ranges = sorted((record.first_lba, record.last_lba) for record in used.values())
     if any(one[1] >= two[0] for one, two in zip(ranges, ranges[1:])):
-        raise Refused(16, "two share a block")
+        raise wrong_entries("two share a block")
     if len({record.part_guid for record in used.values()}) < len(used):
-        raise Refused(16, "two share a GUID")
+        raise wrong_entries("two share a GUID")
     return used
+
+
+def need_agreement(front, array, back, other):
+    """Document 01, Card check: 17 if GUIDs or arrays differ. Document 02, 5/13: it says the disk GUID, first if both apply,
+    or the first slot that differs, which is by its 128 bytes and not by its record."""
+    slots = [slot for slot in range(1, SLOTS + 1) if entries.entry_at(array, slot) != entries.entry_at(other, slot)]
+    if front.disk_guid != back.disk_guid:
+        raise Refused(17, "disk GUID and arrays" if slots else "disk GUID", where=(DISK_GUID, 0))
+    if slots:
+        one, two = (entries.record_from(entries.entry_at(side, slots[0])) for side in (array, other))
+        step = "bytes alone" if one == two else "several slots" if len(slots) > 1 else "one slot"
+        raise Refused(17, step, where=(SLOT, slots[0]))
 
 
 def check(img, b):
@@ -85,10 +105,7 @@ def check(img, b):
     last = shape(img, b)
     front, array = checked_table(img, last, 1, b)
     back, other = checked_table(img, last, 0, b)
-    if front.disk_guid != back.disk_guid:
-        raise Refused(17, "disk GUID")
-    if array != other:
-        raise Refused(17, "arrays")
+    need_agreement(front, array, back, other)
     usable = (front.first_usable, front.last_usable)
     return Card(last, front.disk_guid, array, usable, checked_entries(array, *usable))
 

@@ -6,6 +6,7 @@ from collections import namedtuple
 import images
 import model
 from library import LayoutError
+from units import NOWHERE
 
 Case = namedtuple("Case", "steps name args")
 
@@ -20,7 +21,7 @@ def library_answer(library, name, args):
     try:
         return library[name](*args)
     except LayoutError as error:
-        return str(error), (), ()
+        return str(error), (), (), NOWHERE
 
 
 def differs(library, case):
@@ -129,6 +130,6 @@ def told(library, case):
         yield "  its bytes that are not zero, from the front:"
         yield from runs(args[0])
     yield f"  arguments{' after the image' if case.steps else ''}: {case.args!r}"
-    yield f"  library: {left[0]} {left[1]!r}"
-    yield f"  model:   {right[0]} {right[1]!r}"
+    yield f"  library: {left[0]} {left[1]!r}, where {left[3]}"
+    yield f"  model:   {right[0]} {right[1]!r}, where {right[3]}"
     yield from buffers_told(left[2], right[2])

@@ -58,9 +58,14 @@ NUMBERS = {
     "gpt_mbr_read_disk_signature": {0, 2},
     "gpt_mbr_write_disk_signature": {0, 2},
 }
+CHECKED = {name for name, numbers in NUMBERS.items() if CHECK <= numbers}
+PLACES = {(number, place) for number in (4, 5, 16, 6) for place in (1, 2)} | {(17, 3), (17, 4)}
 CHECK_STEPS = {(number, side) for number in (4, 5, 16, 6) for side in ("front", "back")} | {
     (17, "disk GUID"),
-    (17, "arrays"),
+    (17, "disk GUID and arrays"),
+    (17, "one slot"),
+    (17, "several slots"),
+    (17, "bytes alone"),
     (16, "nil type with bytes"),
     (16, "last below first"),
     (16, "outside usable"),
@@ -99,12 +104,15 @@ class Coverage:
     def __init__(self):
         self.numbers = {name: Counter() for name in NUMBERS}
         self.steps = {name: Counter() for name in NUMBERS}
+        self.places = {name: Counter() for name in NUMBERS}
 
-    def saw(self, name, number, step):
+    def saw(self, name, number, step, where):
         """One compared call."""
         self.numbers[name][number] += 1
         if step:
             self.steps[name][number, step] += 1
+        if where[0] or name in CHECKED and number in {numbered for numbered, _ in PLACES}:
+            self.places[name][number, where[0]] += 1
 
     def total(self):
         """How many calls were compared."""
@@ -126,3 +134,9 @@ class Coverage:
         for name, due in STEPS.items():
             for number, step in sorted(due - set(self.steps[name])):
                 yield f"{name}: {number} ({step}) was never seen"
+        for name, seen in self.places.items():
+            due = PLACES if name in CHECKED else set()
+            for number, place in sorted(due - set(seen)):
+                yield f"{name}: {number} at place {place} was never seen"
+            for number, place in sorted(set(seen) - due):
+                yield f"{name}: {number} has no place {place}"

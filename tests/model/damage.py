@@ -180,6 +180,24 @@ def flags(draw, image, b):
     return steps + [("seal", b, side == "front", True) for side in sides]
 
 
+def differing(draw, image, b):
+    """Some slots of one array changed, used and unused, the first and the last among them at times, also in the bytes after
+    a name's end alone; at times the disk GUID too; the sums repaired."""
+    card = images.places(len(image), b)
+    if not card:
+        return []
+    side = draw.pick(("front", "back"))
+    used = list(images.used_blocks(image, b))
+    slots = draw.pick(([1], [128], [1, 128], draw.random.sample(range(1, 129), draw.pick((1, 2, 5)))))
+    slots = slots + draw.random.sample(used, min(len(used), draw.below(3)))
+    steps = []
+    for slot in slots:
+        steps += in_arrays(card, (side,), slot, draw.pick((126, draw.below(128))), draw.data(1))
+    if draw.chance(30):
+        steps.append(("store", (card.front if side == "front" else card.back) + 56, draw.data(16)))
+    return steps + [("seal", b, side == "front", True)]
+
+
 def disk_guid(draw, image, b):
     """Another disk GUID on one or both sides, with the sums repaired."""
     card = images.places(len(image), b)
@@ -207,7 +225,7 @@ def foreign_header(draw, image, b):
 
 
 ON_SHORT = (bit, length, block_zero, foreign_header, foreign_header, foreign_header)
-ON_ENTRIES = (entry, entry, entry, entry, name_tail, name_tail, flags, twin_guid, twin_guid)
+ON_ENTRIES = (entry, entry, entry, entry, name_tail, name_tail, flags, twin_guid, twin_guid, differing)
 ON_CARD = (bit, bit, field, field, field, signature, after_header, length, swap, disk_guid) + ON_ENTRIES
 KINDS = ON_CARD + (block_zero, foreign_header)
 

@@ -4,6 +4,7 @@ published check sums and what document 02 changes."""
 import builder
 import entries
 import fixed_flags
+import fixed_places
 import fixed_twins
 import headers
 import mbr
@@ -35,7 +36,7 @@ def build_cases():
 def built_fields(calls):
     """The builder's cases."""
     for settings, b, number, blocks in build_cases():
-        got, values, _ = calls["gpt_build"](settings, b)
+        got, values = calls["gpt_build"](settings, b)[:2]
         fields = (values[0].first_usable, values[0].last_usable, values[0].part_start) if blocks else None
         yield f"gpt_build {settings} {b}", (got, fields), (number, blocks)
         if blocks and settings.num_parts == 4:
@@ -67,7 +68,7 @@ def summed(calls, pieces, running=FRESH):
 def running_cases(calls):
     """Document 02, 4/13: a fresh start is 0, no bytes change nothing, and a table cut anywhere sums as one run."""
     for data, value in VECTORS:
-        yield "fresh start", calls["gpt_crc32_next"](FRESH, data), (0, (value,), (data,))
+        yield "fresh start", calls["gpt_crc32_next"](FRESH, data)[:3], (0, (value,), (data,))
         yield "byte by byte", summed(calls, [data[i : i + 1] for i in range(len(data))]), value
         for cut in range(len(data) + 1):
             yield f"cut at {cut}", summed(calls, [data[:cut], b"", data[cut:], b""]), value
@@ -89,14 +90,15 @@ def card_cases(calls):
     record = entries.ZERO._replace(part_type_guid=GUID, first_lba=34, last_lba=34)
     image = calls["card_put"](image, 512, 1, record)[2][0]
     yield "one slot", calls["card_list"](image, 512, bytes(entries.ROW))[0:3:2], (0, (image, entries.row_bytes(1, record)))
-    yield "put over itself", calls["card_put"](image, 512, 1, record), (0, (0,), (image,))
+    yield "put over itself", calls["card_put"](image, 512, 1, record)[:3], (0, (0,), (image,))
     yield "overlap", calls["card_put"](image, 512, 2, record)[:2], (22, (1,))
     yield "one block fewer", calls["card_lay"](bytes(67 * 512), 512, GUID)[0], 10
     yield "signature", image[512:520], b"EFI PART"
     yield "nil type", calls["card_put"](image, 512, 1, record._replace(part_type_guid=NIL))[0], 19
 
 
-GROUPS = (built_fields, small_cases, running_cases, card_cases, *fixed_twins.GROUPS, *fixed_flags.GROUPS)
+REQUESTS = (*fixed_twins.GROUPS, *fixed_flags.GROUPS, *fixed_places.GROUPS)
+GROUPS = (built_fields, small_cases, running_cases, card_cases, *REQUESTS)
 
 
 def wrong(calls):

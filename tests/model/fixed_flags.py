@@ -29,35 +29,17 @@ def raw_entry(bits):
     return b"T" * 16 + b"P" * 16 + struct.pack("<QQQ", 34, 35, bits) + struct.pack("<36H", *range(1, 37))
 
 
-def by_bits(bits):
-    """The parts bit by bit, by UEFI's table; those of the known numbers are written down above."""
-    digits = [bits >> place & 1 for place in range(64)]
-    part = {name: digits[place] for place, name in enumerate(PARTS[:3])}
-    for name, low, high in (("reserved", 3, 47), ("owner", 48, 63)):
-        part[name] = sum(digit << place for place, digit in enumerate(digits[low : high + 1]))
-    return KNOWN.get(bits, part)
-
-
 def read_cases(calls):
     """The places of the parts; reading takes any bits, and reading then writing gives the same 64 bits."""
     for bits in (*KNOWN, *(1 << bit for bit in range(64)), *(2**64 - 1 - (1 << bit) for bit in range(64))):
         raw = raw_entry(bits)
-        named = Flags(**by_bits(bits))
-        yield f"{bits:x} split", calls["gpt_flags_of"](bits), (0, tuple(named), ())
-        yield f"{bits:x} joined", calls["gpt_flags_bits"](named), (0, (bits,), ())
-        number, (held,), _ = calls["gpt_entry_from_bytes"](raw)
+        number, (held,) = calls["gpt_entry_from_bytes"](raw)[:2]
         yield f"reading {bits:x}", number, 0
         if bits in KNOWN:
             yield f"the parts of {bits:x}", {part: getattr(held, part) for part in PARTS}, KNOWN[bits]
         yield f"writing {bits:x} again", calls["gpt_entry_to_bytes"](bytes(128), held)[::2], (0, (raw,))
-        img = calls["gpt_write_entry"](bytes(256), held, 1, 0, B, 128)
+        img = calls["gpt_write_entry"](bytes(256), held, 1, 0, B, 128)[:3]
         yield f"writing {bits:x} to a device", img, (0, (128,), (bytes(128) + raw,))
-
-
-def bits_cases(calls):
-    """28 of flags alone."""
-    for reserved in TOO_LARGE:
-        yield f"bits, reserved {reserved:x}", calls["gpt_flags_bits"](Flags(1, 1, 1, reserved, 1)), (28, (0,), ())
 
 
 def buffer_cases(calls):
@@ -68,7 +50,7 @@ def buffer_cases(calls):
             given = record(1, 34)._replace(reserved=reserved)
             yield f"{n} bytes, reserved {reserved:x}", calls["gpt_entry_to_bytes"](out, given)[::2], (28, (out,))
         most = record(1, 34)._replace(reserved=2**45 - 1)
-        number, _, (filled,) = calls["gpt_entry_to_bytes"](out, most)
+        number, _, (filled,) = calls["gpt_entry_to_bytes"](out, most)[:3]
         yield f"{n} bytes, 45 bits", (number, filled[48:56]), (0, bytes.fromhex("f8ffffffffff0000")[: max(n - 48, 0)])
 
 
@@ -114,13 +96,13 @@ def put_cases(calls):
         ("its own GUID and blocks", 5, record(5, 35), (28, (0,))),
     ):
         for reserved in (1, 2**44, 2**45 - 1, *TOO_LARGE):
-            got = calls["card_put"](image, B, slot, given._replace(reserved=reserved))
+            got = calls["card_put"](image, B, slot, given._replace(reserved=reserved))[:3]
             yield f"put, {name}, reserved {reserved:x}", got, (*due, (image,))
     broken = with_header(image, 0, b"e", ("back",), False)
     yield "the check before 28", calls["card_put"](broken, B, 9, good._replace(reserved=1))[0], 4
     yield "1 before 28", calls["card_put"](image, 0, 9, good._replace(reserved=1))[0], 1
     given = good._replace(required=1, no_block_io=1, legacy_bootable=1, owner=0xABCD)
-    number, _, (after,) = calls["card_put"](image, B, 9, given)
+    number, _, (after,) = calls["card_put"](image, B, 9, given)[:3]
     place = 2 * B + 8 * 128 + 48
     yield "all flags but the reserved", (number, after[place : place + 8]), (0, b"\7\0\0\0\0\0\xcd\xab")
     yield "read back", calls["card_read_slot"](after, B, 9)[:2], (0, (1, given))
@@ -136,24 +118,43 @@ def foreign_cases(calls):
     yield "reading", calls["card_read_slot"](foreign, B, 2)[:2], (0, (1, held))
     yield "the first used", calls["card_nth_used"](foreign, B, 0)[:2], (0, (1, 2, held))
     rows = row_bytes(2, held) + row_bytes(5, record(5, 35))
-    yield "listing", calls["card_list"](foreign, B, bytes(len(rows))), (0, (2,), (foreign, rows))
-    yield "put back", calls["card_put"](foreign, B, 2, held), (28, (0,), (foreign,))
+    yield "listing", calls["card_list"](foreign, B, bytes(len(rows)))[:3], (0, (2,), (foreign, rows))
+    yield "put back", calls["card_put"](foreign, B, 2, held)[:3], (28, (0,), (foreign,))
     after = calls["card_put"](foreign, B, 9, record(9, 36))[2][0]
     yield "put of another slot", after[2 * B + 176 : 2 * B + 184], flags
     yield "read after it", calls["card_read_slot"](after, B, 2)[1], (1, held)
     plain = held._replace(reserved=0)
-    number, _, (after,) = calls["card_put"](foreign, B, 2, plain)
+    number, _, (after,) = calls["card_put"](foreign, B, 2, plain)[:3]
     yield "put without the reserved part", (number, calls["card_read_slot"](after, B, 2)[1]), (0, (1, plain))
-    yield "writing the entry alone", calls["gpt_write_entry"](foreign, held, 1, 2, B, 128), (0, (128,), (foreign,))
+    yield "writing the entry alone", calls["gpt_write_entry"](foreign, held, 1, 2, B, 128)[:3], (0, (128,), (foreign,))
 
 
 def other_cases(calls):
     """The calls that take a record and write nothing know no 28."""
     given = record(1, 34, 35)._replace(reserved=2**64 - 1)
-    yield "is used", calls["gpt_is_used"](given), (0, (1,), ())
-    yield "sectors", calls["gpt_sectors_len"](given), (0, (2,), ())
-    yield "bytes", calls["gpt_bytes_len"](given, B), (0, (2 * B,), ())
-    yield "start", calls["gpt_bytes_start"](given, B), (0, (34 * B,), ())
+    yield "is used", calls["gpt_is_used"](given)[:3], (0, (1,), ())
+    yield "sectors", calls["gpt_sectors_len"](given)[:3], (0, (2,), ())
+    yield "bytes", calls["gpt_bytes_len"](given, B)[:3], (0, (2 * B,), ())
+    yield "start", calls["gpt_bytes_start"](given, B)[:3], (0, (34 * B,), ())
 
 
-GROUPS = (read_cases, bits_cases, buffer_cases, device_cases, put_cases, foreign_cases, other_cases)
+def by_bits(bits):
+    """The parts bit by bit, by UEFI's table; those of the known numbers are written down above."""
+    digits = [bits >> place & 1 for place in range(64)]
+    part = {name: digits[place] for place, name in enumerate(PARTS[:3])}
+    for name, low, high in (("reserved", 3, 47), ("owner", 48, 63)):
+        part[name] = sum(digit << place for place, digit in enumerate(digits[low : high + 1]))
+    return KNOWN.get(bits, part)
+
+
+def bits_cases(calls):
+    """Flags alone, each bit split and joined; 28 if the reserved part needs more than 45 bits."""
+    for bits in (*KNOWN, *(1 << bit for bit in range(64)), *(2**64 - 1 - (1 << bit) for bit in range(64))):
+        named = Flags(**by_bits(bits))
+        yield f"{bits:x} split", calls["gpt_flags_of"](bits)[:3], (0, tuple(named), ())
+        yield f"{bits:x} joined", calls["gpt_flags_bits"](named)[:3], (0, (bits,), ())
+    for reserved in TOO_LARGE:
+        yield f"bits, reserved {reserved:x}", calls["gpt_flags_bits"](Flags(1, 1, 1, reserved, 1))[:3], (28, (0,), ())
+
+
+GROUPS = (read_cases, buffer_cases, device_cases, put_cases, foreign_cases, other_cases, bits_cases)

@@ -4,7 +4,7 @@ import struct
 from collections import namedtuple
 
 from sums import crc32
-from units import NIL, Refused, call, fits, guid_bytes, guid_from, need_block_size, need_inside
+from units import NIL, NOWHERE, Refused, call, fits, guid_bytes, guid_from, need_block_size, need_inside
 
 SIGNATURE = b"EFI PART"
 SIZE = 92
@@ -37,15 +37,15 @@ def header_sum(raw):
     return crc32(raw[:16] + bytes(4) + raw[20:SIZE])
 
 
-def header_at(img, place, step=""):
-    """Document 01, Header, Reading: 2, 4, 5."""
+def header_at(img, place, step="", where=NOWHERE):
+    """Document 01, Header, Reading: 2, 4, 5. Document 02, 5/13: in the card check 4 and 5 say which table it is."""
     need_inside(img, place, SIZE)
     raw = bytes(img[place : place + SIZE])
     if raw[:8] != SIGNATURE:
-        raise Refused(4, step)
+        raise Refused(4, step, where=where)
     header = header_from(raw)
     if header.crc32 != header_sum(raw):
-        raise Refused(5, step)
+        raise Refused(5, step, where=where)
     return header
 
 

@@ -2,6 +2,7 @@
 
 import entries
 import images
+import model
 from units import Guid, guid_bytes, guid_from
 
 GUID = guid_from(bytes(range(16)))
@@ -78,9 +79,11 @@ def checked_calls(slot, held):
     }
 
 
-def refused_alike(calls, name, image, slot, held, number):
-    """That each call which begins with the card check gives this number on an image and leaves every lent byte."""
+def refused_alike(calls, name, image, slot, held, number, where=None):
+    """That each call which begins with the card check gives this number on an image, at this place if one is given, with
+    every other field zero, and leaves every lent byte."""
     for call, args in checked_calls(slot, held).items():
         lent = tuple(arg for arg in (image, *args) if isinstance(arg, bytes))
         got = calls[call](image, *args)
-        yield f"{name}, {call}", (got[0], got[2]), (number, lent)
+        due = (number, model.CALLS[call].zero, lent, got[3] if where is None else where)
+        yield f"{name}, {call}", got, due

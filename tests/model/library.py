@@ -9,6 +9,7 @@ import entries
 import headers
 import mbr
 import units
+from units import NOWHERE
 
 GUARD = b"\xa5" * 32
 LENT = "a lent slice: a pointer, then a length"
@@ -118,12 +119,30 @@ SIGNATURE = structure("gpt_signature", 4, [("bytes", c_uint8 * 4, 0)])
 RECORD_BYTES = structure("gpt_record_bytes", 16, [("bytes", c_uint8 * 16, 0)])
 MBR_BYTES = structure("gpt_mbr_bytes", 512, [("bytes", c_uint8 * 512, 0)])
 
-CARD_ANSWER = answer("card_answer", 8, ("slot", c_uint32, 4))
+# The one place that says how the answers of the card calls lie. Document 02, 5/13: place and differs may stand anywhere in
+# them; the other fields are in the order of the model's values. An answer without the two says place 0 and slot 0.
+CARD_ANSWER = answer("card_answer", 16, *fields_of(c_uint32, "slot", "place", "differs", start=4))
+CARD_STORED = answer("card_stored", 24, *fields_of(c_uint32, "place", "differs", start=4), ("bytes", c_uint64, 16))
+CARD_COUNT = answer("card_count", 16, *fields_of(c_uint32, "count", "place", "differs", start=4))
+CARD_NEXT = answer("card_next", 16, *fields_of(c_uint32, "slot", "place", "differs", start=4))
+CARD_SLOT_READ = answer(
+    "card_slot_read",
+    16 + HELD,
+    ("present", c_uint8, 4),
+    *fields_of(c_uint32, "place", "differs", start=8),
+    ("partition", PARTITION, 16),
+)
+CARD_USED_READ = answer(
+    "card_used_read",
+    24 + HELD,
+    ("found", c_uint8, 4),
+    *fields_of(c_uint32, "slot", "place", "differs", start=8),
+    ("partition", PARTITION, 24),
+)
 STORED = answer("gpt_stored", 16, ("bytes", c_uint64, 8))
 COUNT = answer("gpt_count", 8, ("count", c_uint32, 4))
 NEXT = answer("gpt_next", 8, ("slot", c_uint32, 4))
 SLOT_READ = answer("gpt_slot_read", 8 + HELD, ("present", c_uint8, 4), ("partition", PARTITION, 8))
-USED_READ = answer("card_used_read", 16 + HELD, ("found", c_uint8, 4), ("slot", c_uint32, 8), ("partition", PARTITION, 16))
 HEADER_READ = answer("gpt_header_read", 96, ("header", HEADER, 8))
 BLOCK = answer("gpt_block", 16, ("lba", c_uint64, 8))
 SUM = answer("gpt_sum", 8, ("sum", c_uint32, 4))
@@ -145,12 +164,12 @@ DECLARED = {
     "card_check": (CARD_ANSWER, LENT, c_uint64),
     "card_put": (CARD_ANSWER, LENT, c_uint64, c_uint32, PARTITION),
     "card_clear": (CARD_ANSWER, LENT, c_uint64, c_uint32),
-    "card_write_payload": (STORED, LENT, c_uint64, c_uint32, c_size_t, LENT),
-    "card_count_used": (COUNT, LENT, c_uint64),
-    "card_next_used": (NEXT, LENT, c_uint64, c_uint32),
-    "card_read_slot": (SLOT_READ, LENT, c_uint64, c_uint32),
-    "card_nth_used": (USED_READ, LENT, c_uint64, c_uint32),
-    "card_list": (COUNT, LENT, c_uint64, LENT),
+    "card_write_payload": (CARD_STORED, LENT, c_uint64, c_uint32, c_size_t, LENT),
+    "card_count_used": (CARD_COUNT, LENT, c_uint64),
+    "card_next_used": (CARD_NEXT, LENT, c_uint64, c_uint32),
+    "card_read_slot": (CARD_SLOT_READ, LENT, c_uint64, c_uint32),
+    "card_nth_used": (CARD_USED_READ, LENT, c_uint64, c_uint32),
+    "card_list": (CARD_COUNT, LENT, c_uint64, LENT),
     "gpt_crc32": (c_uint32, LENT),
     "gpt_crc32_next": (c_uint32, c_uint32, LENT),
     "gpt_read_primary_header": (HEADER_READ, LENT, c_uint64),
@@ -243,14 +262,22 @@ def has_number(result):
     return result is Number or issubclass(result, ctypes.Structure) and result._fields_[0][0] == "number"
 
 
+def parted(result, values):
+    """The number, the other fields and the place of an answer. Where it says no place, the place is none."""
+    fields = dict(zip((field for field, _ in result._fields_), values))
+    number = fields.pop("number")
+    where = (fields.pop("place"), fields.pop("differs")) if "differs" in fields else NOWHERE
+    return number, tuple(fields.values()), where
+
+
 def answered(result, value):
-    """The number and the other fields of what a call came back with."""
+    """The number, the other fields and the place of what a call came back with."""
     if result is Number:
-        return value.value, ()
+        return value.value, (), NOWHERE
     if not issubclass(result, ctypes.Structure):
-        return 0, (value,)
+        return 0, (value,), NOWHERE
     values = tuple(plain(result, value))
-    return (values[0], values[1:]) if has_number(result) else (0, values)
+    return parted(result, values) if has_number(result) else (0, values, NOWHERE)
 
 
 def bind(function, result, *kinds):
@@ -269,8 +296,8 @@ def bind(function, result, *kinds):
                 given += [lent[-1].pointer(), len(arg)]
             else:
                 given.append(native(kind, arg))
-        number, values = answered(result, function(*given))
-        return number, values, tuple(piece.content() for piece in lent)
+        number, values, where = answered(result, function(*given))
+        return number, values, tuple(piece.content() for piece in lent), where
 
     return run
 

@@ -53,7 +53,7 @@ class Rounds:
         self.compared += 1
         given = (image, *args) if steps else args
         right = model.CALLS[name](*given)
-        self.seen.saw(name, right[0], model.CALLS[name].step)
+        self.seen.saw(name, right[0], model.CALLS[name].step, right[3])
         if compare.library_answer(self.calls, name, given) != right:
             raise Difference(compare.Case(list(steps), name, args))
         return right
@@ -102,7 +102,7 @@ class Rounds:
         kind = draw.below(10)
         if kind < 2:
             edges = [b - 1, b, b + 91, b + 92, 2 * b - 1, 2 * b, 3 * b - 1, 3 * b, room - b, room - 1]
-            length = draw.pick(LENGTHS if draw.chance(40) else edges)
+            length = draw.pick(LENGTHS if draw.chance(60) else edges)
         elif kind < 5:
             length = room + draw.pick((0, 1, b - 1, b))
         else:

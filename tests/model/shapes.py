@@ -7,6 +7,7 @@ import coverage
 import library
 import model
 from draws import Draw
+from units import NOWHERE
 
 
 def wrong_values(rounds=100):
@@ -41,7 +42,7 @@ def wrong_calls():
         lent = tuple(i for i, kind in enumerate(kinds) if kind is library.LENT)
         if len(inspect.signature(call).parameters) != len(kinds) or lent != call.lent:
             yield f"{name}: its arguments are not the model's"
-        if library.has_number(result) and library.answered(result, result())[1:] != (call.zero,):
+        if library.has_number(result) and library.answered(result, result()) != (0, call.zero, NOWHERE):
             yield f"{name}: the fields of its answer are not the model's"
 
 

@@ -1,7 +1,9 @@
 """What every part of the model uses: widths, GUIDs, refusals and the shape of an answer.
 
-A call of the model is a plain function. It returns (number, values, buffers): the number of document 01's table, the other fields of the
-answer in the order of card.h, and the content of every lent buffer after the call.
+A call of the model is a plain function. It returns (number, values, buffers, where): the number of document 01's table, the
+other fields of the answer in the order of card.h, the content of every lent buffer after the call, and where the card check
+failed. Document 02, 5/13: "a reader who drops the new part sees the old answer", so the new part stands apart: the place and
+the slot that differs.
 """
 
 import functools
@@ -11,6 +13,7 @@ from collections import namedtuple
 BLOCK_SIZES = (512, 4096)
 ALL_32 = 2**32 - 1
 ALL_64 = 2**64 - 1
+NOWHERE = (0, 0)
 
 Guid = namedtuple("Guid", "time_low time_mid time_high tail")
 NIL = Guid(0, 0, 0, bytes(8))
@@ -18,13 +21,15 @@ GUID_LAYOUT = struct.Struct("<IHH8s")
 
 
 class Refused(Exception):
-    """A refusal: its number, which of several tests with that number gave it, and the slot that 22 and 25 name."""
+    """A refusal: its number, which of several tests with that number gave it, the slot that 22 and 25 name, and where the card
+    check failed."""
 
-    def __init__(self, number, step="", values=None):
+    def __init__(self, number, step="", values=None, where=NOWHERE):
         super().__init__(number)
         self.number = number
         self.step = step
         self.values = values
+        self.where = where
 
 
 def call(zero, lent=()):
@@ -43,9 +48,9 @@ def call(zero, lent=()):
             except Refused as refusal:
                 answer.step = refusal.step
                 values = zero if refusal.values is None else refusal.values
-                return refusal.number, values, tuple(bytes(args[i]) for i in lent)
+                return refusal.number, values, tuple(bytes(args[i]) for i in lent), refusal.where
             answer.step = ""
-            return 0, values, tuple(bytes(work[i]) for i in lent)
+            return 0, values, tuple(bytes(work[i]) for i in lent), NOWHERE
 
         answer.lent = lent
         answer.zero = zero

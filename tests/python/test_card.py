@@ -42,6 +42,14 @@ def laid(blocks=100, size=512):
     return image
 
 
+def resum(image, header, array):
+    """Makes both sums of the header at a block right again, for the array at another."""
+    at = header * 512
+    image[at + 88 : at + 92] = zlib.crc32(image[array * 512 : array * 512 + 16384]).to_bytes(4, "little")
+    image[at + 16 : at + 20] = bytes(4)
+    image[at + 16 : at + 20] = zlib.crc32(image[at : at + 92]).to_bytes(4, "little")
+
+
 def filled():
     """A card of 100 blocks with slot 3 in blocks 40 to 41."""
     image = laid()
@@ -308,12 +316,14 @@ class Sums(unittest.TestCase):
 
 
 class Refusals(unittest.TestCase):
-    def refused(self, number, slot, image, call):
+    def refused(self, number, slot, image, call, place=card.NOWHERE, differs=0):
         before = bytes(image)
         with self.assertRaises(card.Refused) as caught:
             call(image)
-        self.assertEqual((caught.exception.number, caught.exception.slot), (number, slot))
+        refusal = caught.exception
+        self.assertEqual((refusal.number, refusal.slot, refusal.place, refusal.differs), (number, slot, place, differs))
         self.assertEqual(bytes(image), before)
+        return str(refusal)
 
     def test_a_refused_call_changes_nothing(self):
         image = filled()
@@ -343,13 +353,35 @@ class Refusals(unittest.TestCase):
             image = filled()
             image[place] ^= 1
             for call in calls:
-                self.refused(number, 0, image, call)
+                self.refused(number, 0, image, call, card.FRONT if place < 67 * 512 else card.BACK)
         for call in calls:
             self.refused(8, 0, bytearray(3 * 512 - 1), call)
             self.refused(10, 0, bytearray(67 * 512), call)
 
+    def test_a_refusal_says_which_table_and_where(self):
+        def check(image):
+            card.check(image, 512)
+
+        image = filled()
+        image[67 * 512 + 4 * 128] ^= 1
+        self.assertEqual(self.refused(6, 0, image, check, card.BACK), "refused 6, PartsCrc: the back table's entry check sum does not match")
+        resum(image, 99, 67)
+        self.assertEqual(self.refused(17, 0, image, check, card.SLOT, 5), "refused 17, Disagree: the two tables differ, first in slot 5")
+        image[99 * 512 + 56] ^= 1
+        resum(image, 99, 67)
+        self.assertEqual(self.refused(17, 0, image, check, card.DISK_GUID), "refused 17, Disagree: the two tables have different disk GUIDs")
+        image = filled()
+        image[512 + 48] ^= 1
+        resum(image, 1, 2)
+        self.assertEqual(self.refused(16, 0, image, check, card.FRONT), "refused 16, WrongLayout: the front table is not laid out as a card's")
+        image[512] ^= 1
+        self.assertEqual(self.refused(4, 0, image, check, card.FRONT), "refused 4, InvalidGptSignature: the front table's header does not begin with EFI PART")
+        image = filled()
+        image[99 * 512 + 16] ^= 1
+        self.assertEqual(self.refused(5, 0, image, check, card.BACK), "refused 5, InvalidCRC32Checksum: the back table's header check sum does not match")
+
     def test_a_refusal_is_pickled_and_copied(self):
-        for refusal in (card.Refused(22, 7), card.Refused(5)):
+        for refusal in (card.Refused(22, 7), card.Refused(5), card.Refused(6, 0, card.BACK), card.Refused(17, 0, card.SLOT, 5)):
             for again in [pickle.loads(pickle.dumps(refusal, protocol)) for protocol in range(pickle.HIGHEST_PROTOCOL + 1)] + [copy.copy(refusal)]:
                 self.assertEqual((type(again), again.number, again.slot, again.name, str(again)), (card.Refused, refusal.number, refusal.slot, refusal.name, str(refusal)))
 

@@ -6,9 +6,18 @@ use crate::{mixed, Said, ARRAY, IMAGE, PAYLOAD};
 /// One row of a listing into lent bytes: card_row.
 const ROW: usize = 136;
 
+/// card_answer.
+#[repr(C)]
+struct Answer {
+    number: u32,
+    _slot: u32,
+    _place: u32,
+    _differs: u32,
+}
+
 extern "C" {
-    fn card_lay(img: *mut u8, n: usize, b: u64, guid: Guid) -> Narrow;
-    fn card_put(img: *mut u8, n: usize, b: u64, slot: u32, partition: Partition) -> Narrow;
+    fn card_lay(img: *mut u8, n: usize, b: u64, guid: Guid) -> Answer;
+    fn card_put(img: *mut u8, n: usize, b: u64, slot: u32, partition: Partition) -> Answer;
 }
 
 fn guid(low: u32) -> Guid {

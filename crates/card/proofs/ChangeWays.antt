@@ -1,19 +1,17 @@
 -- The ways out of put's and clear's tests, one law for each: what the tests told, and what the definitions then give. No contract cites this file. Assumes nothing.
 use mathlib.Core.Path.{_≡_, refl, sym, ap, ap₂, _∙_, subst}
-use mathlib.Core.Bool.{Bool, true, false, not, _&&_, _||_}
+use mathlib.Core.Bool.{Bool, true, false, not, _||_}
 use mathlib.Core.List.{List}
-use Prim.Native.Nat.{ℕ, zero, suc, _+_, _*_, _-_, _≤_, _<_}
+use Prim.Native.Nat.{ℕ, _+_, _-_, _≤_, _<_}
 use native.Mathlib.Omega.{arith}
-use borrow.Author.Tests.{lt-ltb, le-ltb, ne-eqb, not-false}
+use borrow.Author.Tests.{lt-ltb, le-ltb, not-false}
 use lib.Dec.{eqb, ltb}
-use lib.ListN.{length}
 use Rattle.units.specs.declared.why.Why.{Why}
 use Rattle.units.specs.declared.Refusal.the-variants.{BadSlot, NilType, BadRange, OutsideUsable, Overlap, TwinGuid, ReservedFlag}
 use Rattle.units.specs.Answer.{accepted, plain, ofSlot, fine, when, orElse, pick, settle, Outcome, gives, Ends, ends, Answer}
-use Rattle.units.specs.Meanings.{verdictMeans, verdictOf}
+use Rattle.units.specs.Meanings.{cardMeans, verdictOf}
 use Rattle.units.proofs.Chains.{here, on, found, past, else-first, else-second, none-when, Named, named-is, named-when, named-else, verdict-judged, settle-accepted, settle-refused, judged-some}
 use Rattle.partition.specs.Format.{firstAt, lastAt, nilTypeAt}
-use Rattle.tables.specs.Checks.{lowest}
 use Rattle.tables.specs.Places.{firstUsable, lastUsable}
 use Rattle.tables.specs.Lens.{Tables}
 use Rattle.tables.specs.Entries.{entry, used, firstOf, lastOf, partGuidOf, overlaps, firstTwin}
@@ -128,12 +126,12 @@ named-put B n t s e reserved =
 
 -- a refusal by its name, which changes nothing, and an accepted call
 module _ (w : Why) (k : Named w) {f : Why} (e : f ≡ w) (old new : List ℕ) where
-  pub refuses : (f .number ≡ 0 → ⊥) → Ends (settle w tt old new) (verdictMeans (verdictOf f)) old
+  pub refuses : (f .number ≡ 0 → ⊥) → Ends (settle w tt old new) (cardMeans (verdictOf f)) old
   refuses d =
       let n : w .number ≡ 0 → ⊥ = λ z. d (ap (λ (x : Why). x .number) e ∙ z) in
       let o = settle-refused {A = Unit} tt w old new n in
       record {
-        answer = ap (λ (x : Why). verdictMeans (verdictOf x)) e ∙ verdict-judged w k ∙ judged-some tt w n ∙ sym (ap (λ (x : Outcome (Answer Unit)). x .answer) o);
+        answer = ap (λ (x : Why). cardMeans (verdictOf x)) e ∙ verdict-judged w k ∙ judged-some tt w n ∙ sym (ap (λ (x : Outcome (Answer Unit)). x .answer) o);
         image = sym (ap (λ (x : Outcome (Answer Unit)). x .image) o);
       }
 

@@ -3,3 +3,4 @@ pub mod LayWays
 pub mod CopyLaws
 pub mod ChangeWays
 pub mod PayWays
+pub mod Dropped

@@ -12,10 +12,10 @@ use lib.ListN.{length}
 use lib.Seq.{sets}
 use Rattle.units.specs.declared.BytePlace.{BytePlace}
 use Rattle.units.specs.declared.why.Why.{Why}
-use Rattle.units.specs.declared.Refusal.{Refusal}
+use Rattle.units.specs.declared.Reason.{Reason}
 use Rattle.units.specs.declared.Refusal.the-variants.{EmptySlot}
 use Rattle.units.specs.Answer.{Answer, accepted, refused, refuse, plain, fine, when, ifZero, pick, judged, gives, Ends, ends}
-use Rattle.units.specs.Refusals.{why, refusalOf, refusedBy}
+use Rattle.units.specs.Refusals.{whyAt, reasonOf}
 use Rattle.units.specs.Bytes.{part, num, allZero}
 use Rattle.units.proofs.Chains.{found, past, last, none, else-first, none-when, else-second, Named, named-is, named-when, named-else, judged-none, judged-some, judged-zero, settle-accepted, settle-refused}
 use Rattle.partition.specs.Format.{firstAt, lastAt, nilTypeAt}
@@ -124,11 +124,11 @@ unfolding usedCheck
 named-used B n t s = named-else (slotCheck B n t s) _ (named-slot B n t s) (named-when (not (used (slotEntry t s))) _ (named-is EmptySlot))
 
 module _ (B n : ℕ) (t : Tables) (s p m : ℕ) (v : BytePlace) {f : Why} (e : f ≡ usedCheck B n t s) where
-  pub pay-refused : {r : Refusal} → (f .number ≡ 0 → ⊥) → r ≡ refusalOf f → _≡_ {A = Answer BytePlace} (refusedBy r) (judged (payloadCheck B n t s p m) v)
+  pub pay-refused : {r : Reason} → (f .number ≡ 0 → ⊥) → r ≡ reasonOf f → _≡_ {A = Answer BytePlace} (refused (whyAt r)) (judged (payloadCheck B n t s p m) v)
   unfolding payloadCheck
   pay-refused {r} d q =
       let k : f ≡ payloadCheck B n t s p m = found _ e d in
-      let w : why r ≡ f = ap why q ∙ ap (λ (x : Why). why (refusalOf x)) e ∙ named-used B n t s .name (λ z. d (ap (λ (x : Why). x .number) e ∙ z)) ∙ sym e in
+      let w : whyAt r ≡ f = ap whyAt q ∙ ap (λ (x : Why). whyAt (reasonOf x)) e ∙ named-used B n t s .name (λ z. d (ap (λ (x : Why). x .number) e ∙ z)) ∙ sym e in
       ap refused (w ∙ k) ∙ sym (judged-some v (payloadCheck B n t s p m) (λ z. d (ap (λ (x : Why). x .number) k ∙ z)))
 
   pub pay-placed : {a : Answer BytePlace} → f .number ≡ 0 → a ≡ pick (ltb (partitionBytes B (slotEntry t s)) (p + m)) (refuse 24) (accepted v) → a ≡ judged (payloadCheck B n t s p m) v

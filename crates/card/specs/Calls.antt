@@ -49,7 +49,7 @@ recordCheck B n s e =
 unfoldable pub overlapCheck : List ℕ → ℕ → List ℕ → Why
 overlapCheck arr k e = when (ltb (firstOverlap arr k e) 128) (ofSlot 22 (firstOverlap arr k e + 1))
 
--- 25 a twin, with the lowest other slot that has the partition GUID
+-- 25 a twin, with the lowest other used slot that has the partition GUID
 unfoldable pub twinCheck : List ℕ → ℕ → List ℕ → Why
 twinCheck arr k e = when (ltb (firstTwin arr k (partGuidOf e)) 128) (ofSlot 25 (firstTwin arr k (partGuidOf e) + 1))
 

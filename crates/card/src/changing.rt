@@ -3,6 +3,7 @@
 use units::BytePlace;
 use units::Guid;
 use units::Lba;
+use units::Place;
 use units::Slot;
 use units::why;
 use units::why::Why;
@@ -73,7 +74,7 @@ fn of_slot(number: u32, j: u32) -> Why
         return Why {
             number,
             slot: units::inner::slot_at(j),
-            place: 0,
+            place: Place::Nowhere,
         };
     }
     why::FINE

@@ -11,33 +11,40 @@ pub use listing::next_used;
 pub use listing::nth_used;
 pub use listing::read_slot;
 use partition::Partition;
+use payload::Spot;
 use units::BytePlace;
+use units::CardStored;
+use units::CardVerdict;
 use units::Guid;
-use units::Placed;
+use units::Place;
 use units::Slot;
-use units::Stored;
-use units::Verdict;
+use units::why::Why;
 ghost use Rattle.units.proofs.Chains.{found};
 ghost use Rattle.units.specs.Answer.{Ends};
-ghost use Rattle.units.specs.Meanings.{verdictMeans, storedMeans};
+ghost use Rattle.units.specs.Meanings.{cardMeans, cardStoredMeans};
 ghost use Rattle.card.specs.Calls.{layOutcome, putOutcome, clearOutcome, payloadOutcome};
 
 // Lays an empty card for a disk GUID, the MBR and both tables: 1 bad block size, 8 and 10 too small.
-pub fn lay(img: &mut [u8], b: u64, guid: Guid) -> Verdict
-    ensures { λ r. ⌜ Ends (layOutcome b (now (img .entry)) guid) (verdictMeans r) (now (img .exit)) ⌝ }
+pub fn lay(img: &mut [u8], b: u64, guid: Guid) -> CardVerdict
+    ensures { λ r. ⌜ Ends (layOutcome b (now (img .entry)) guid) (cardMeans r) (now (img .exit)) ⌝ }
 {
     let found = tables::inner::room_check(img.len(), b);
-    if found.number != 0 {
-        return found.verdict();
+    if found != 0 {
+        let refusal = Why {
+            number: found,
+            slot: Slot(0),
+            place: Place::Nowhere,
+        };
+        return refusal.verdict();
     }
     laying::lay_card(img, b, guid);
-    Verdict::Accepted
+    CardVerdict::Accepted
 }
 
 // Puts a record into a slot of both tables, the GUID kept: after the check 18 no such slot, 19 nil type, 20 last before first, 21 outside the usable blocks,
 // 22 with the lowest other slot that shares a block, 25 with the lowest other slot that has the partition GUID, 28 a reserved flag.
-pub fn put(img: &mut [u8], b: u64, slot: Slot, p: Partition) -> Verdict
-    ensures { λ r. ⌜ Ends (putOutcome b (now (img .entry)) (slot .0) p) (verdictMeans r) (now (img .exit)) ⌝ }
+pub fn put(img: &mut [u8], b: u64, slot: Slot, p: Partition) -> CardVerdict
+    ensures { λ r. ⌜ Ends (putOutcome b (now (img .entry)) (slot .0) p) (cardMeans r) (now (img .exit)) ⌝ }
 {
     let e = partition::inner::tidied_bytes(p);
     let reserved = p.flags.reserved;
@@ -47,12 +54,12 @@ pub fn put(img: &mut [u8], b: u64, slot: Slot, p: Partition) -> Verdict
         return found.verdict();
     }
     changing::change(&t, img, b, slot, &e);
-    Verdict::Accepted
+    CardVerdict::Accepted
 }
 
 // Clears a slot in both tables, the GUID kept: 18 no such slot, after the check.
-pub fn clear(img: &mut [u8], b: u64, slot: Slot) -> Verdict
-    ensures { λ r. ⌜ Ends (clearOutcome b (now (img .entry)) (slot .0)) (verdictMeans r) (now (img .exit)) ⌝ }
+pub fn clear(img: &mut [u8], b: u64, slot: Slot) -> CardVerdict
+    ensures { λ r. ⌜ Ends (clearOutcome b (now (img .entry)) (slot .0)) (cardMeans r) (now (img .exit)) ⌝ }
 {
     let t = crc32::inner::table();
     let found = checking::inner::slot_check(&t, img, b, slot);
@@ -61,19 +68,25 @@ pub fn clear(img: &mut [u8], b: u64, slot: Slot) -> Verdict
     }
     let e = [0u8; 128];
     changing::change(&t, img, b, slot, &e);
-    Verdict::Accepted
+    CardVerdict::Accepted
 }
 
 // Writes bytes at a place of a slot's partition, and nothing else: 18 no such slot, 23 unused, 24 past the partition's end, after the check. It gives how many bytes it stored.
-pub fn write_payload(img: &mut [u8], b: u64, slot: Slot, place: BytePlace, bytes: &[u8]) -> Stored
-    ensures { λ r. ⌜ Ends (payloadOutcome b (now (img .entry)) (slot .0) (place .0) (now (bytes .entry))) (storedMeans r) (now (img .exit)) ⌝ }
+pub fn write_payload(
+    img: &mut [u8],
+    b: u64,
+    slot: Slot,
+    place: BytePlace,
+    bytes: &[u8],
+) -> CardStored
+    ensures { λ r. ⌜ Ends (payloadOutcome b (now (img .entry)) (slot .0) (place .0) (now (bytes .entry))) (cardStoredMeans r) (now (img .exit)) ⌝ }
 {
     let n = bytes.len();
     match payload::payload_place(img, b, slot, place, n) {
-        Placed::Refused(w) => Stored::Refused(w),
-        Placed::At(at) => {
+        Spot::Refused(w) => CardStored::Refused(w),
+        Spot::At(at) => {
             units::inner::put_bytes(img, at.0, bytes);
-            Stored::Bytes(n)
+            CardStored::Bytes(n)
         }
     }
 }

@@ -5,14 +5,15 @@ use Prim.Native.Nat.{ℕ, _/_, _≤_, _<_}
 use borrow.Author.Tests.{lt-ltb, le-ltb}
 use lib.ListN.{length}
 use Rattle.units.specs.declared.why.Why.{Why}
-use Rattle.units.specs.Answer.{Answer, accepted, refused, refuse, andThen, Beside, beside, Outcome, Ends}
+use Rattle.units.specs.Answer.{Answer, accepted, refused, refuse, fine, andThen, Beside, beside, Outcome, Ends}
 use Rattle.partition.specs.Format.{entryAt}
 use Rattle.rows.specs.declared.Entry.{Entry}
 use Rattle.rows.specs.declared.inner.Plan.{Plan}
-use Rattle.rows.specs.Plans.{planned, roomed}
+use Rattle.rows.specs.Plans.{planned, roomed, plainly}
 use Rattle.rows.specs.RowBytes.{bytesOutcome}
-use Rattle.card_c.specs.declared.answers.GptCount.{GptCount}
-use Rattle.card_c.specs.Exports.{outcomeToC, crossed, aside, answerToC, countToC, answered, entryParsed}
+use Rattle.card_c.specs.declared.answers.CardAnswer.{CardAnswer}
+use Rattle.card_c.specs.Exports.{outcomeToC, crossed, aside, countToC, answered, entryParsed}
+use Rattle.card_c.specs.CardExports.{whyToC, crossedAt, asideAt}
 
 module _ {A S : Type 0} (make : ℕ → A → S) (z : A) where
   pub crossed-fine : (a : Answer A) {x : A} → a ≡ accepted x → make 0 x ≡ crossed make z a
@@ -33,13 +34,20 @@ module _ {A S : Type 0} (make : ℕ → A → S) (z : A) where
 pub told-ends : {A C : Type 0} (f : A → C) (o : Outcome A) {a : A} {r : C} {i : List ℕ} → Ends o a i → r ≡ f a → Ends (outcomeToC f o) r i
 told-ends f o e q = record { answer = q ∙ ap f (e .answer); image = e .image }
 
-pub answer-fine : (a : Answer Unit) → a ≡ accepted tt → record { number = 0; slot = 0 } ≡ answerToC a
-unfolding answerToC
-answer-fine a e = sym (ap answerToC e)
+-- the same of the card calls, whose answers say the place
+module _ {A S : Type 0} (make : CardAnswer → A → S) (z : A) where
+  pub card-fine : (a : Answer A) {x : A} → a ≡ accepted x → make (whyToC fine) x ≡ crossedAt make z a
+  unfolding crossedAt
+  card-fine a e = sym (ap (crossedAt make z) e)
 
-pub answer-no : (a : Answer Unit) {w : Why} {k s : ℕ} → a ≡ refused w → k ≡ w .number → s ≡ w .slot .0 → record { number = k; slot = s } ≡ answerToC a
-unfolding answerToC
-answer-no a e q p = cc
+  pub card-no : (a : Answer A) {w : Why} {k : CardAnswer} → a ≡ refused w → k ≡ whyToC w → make k z ≡ crossedAt make z a
+  unfolding crossedAt
+  card-no a e q = ap (λ (i : CardAnswer). make i z) q ∙ sym (ap (crossedAt make z) e)
+
+  pub aside-card : (a : Answer A) → asideAt make (beside z a) ≡ crossedAt make z a
+  unfolding asideAt beside crossedAt
+  aside-card (accepted x) = refl
+  aside-card (refused w) = refl
 
 -- the answer that stands behind a verdict with a value beside it
 pub answered-beside : {A : Type 0} (z : A) (a : Answer A) → answered (beside z a) ≡ a
@@ -67,7 +75,13 @@ entry-whole xs h = rw (le-ltb (length xs) 128 h)
 
 -- ---- rows in lent bytes
 
--- a plan carried out, told to C: what the plan says, with the 15 of the rows that the bytes have, is what is asked for
-pub rows-told : (xs out : List ℕ) (p : Plan) {said asked : Answer (List Entry)} → planned xs p ≡ said → roomed (length out / 136) said ≡ asked → {a : Answer ℕ} {r : GptCount} {ys : List ℕ}
-    → Ends (bytesOutcome (roomed (length out / 136) (planned xs p)) out) a ys → r ≡ countToC a → Ends (outcomeToC countToC (bytesOutcome asked out)) r ys
-rows-told xs out p e f g q = told-ends countToC _ (rw (e, f) at g) q
+-- a plan carried out, told to C by f: what the plan says, with the 15 of the rows that the bytes have, is what is asked for
+pub rows-told : {C : Type 0} (f : Answer ℕ → C) (xs out : List ℕ) (p : Plan) {said asked : Answer (List Entry)} → planned xs p ≡ said → roomed (length out / 136) said ≡ asked → {a : Answer ℕ} {r : C} {ys : List ℕ}
+    → Ends (bytesOutcome (roomed (length out / 136) (planned xs p)) out) a ys → r ≡ f a → Ends (outcomeToC f (bytesOutcome asked out)) r ys
+rows-told f xs out p e g h q = told-ends f _ (rw (e, g) at h) q
+
+-- a ported call's count has no place to drop
+pub count-plainly : (a : Answer ℕ) → countToC (plainly a) ≡ countToC a
+unfolding crossed
+count-plainly (accepted n) = refl
+count-plainly (refused w) = refl

@@ -1,4 +1,4 @@
--- What C gets for each answer: document 01's number first, 0 for accepted, then the values; beside a refusal each of them is zero. Assumes nothing.
+-- What C gets for each answer of the ported calls: document 01's number first, 0 for accepted, then the values; beside a refusal each of them is zero. Assumes nothing.
 use mathlib.Core.Bool.{true, false}
 use mathlib.Core.List.{List, [], _∷_}
 use Prim.Native.Nat.{ℕ}
@@ -20,14 +20,10 @@ use Rattle.mbr.specs.Changing.{Changed}
 use Rattle.partition.specs.declared.Partition.{Partition}
 use Rattle.partition.specs.Array.{Found}
 use Rattle.partition.specs.Format.{entryAt, zeroPartition}
-use Rattle.listing.specs.Listing.{Listed}
-use Rattle.listing.specs.Meanings.{Used, firstUsed}
-use Rattle.card_c.specs.declared.answers.CardAnswer.{CardAnswer}
 use Rattle.card_c.specs.declared.answers.GptStored.{GptStored}
 use Rattle.card_c.specs.declared.answers.GptCount.{GptCount}
 use Rattle.card_c.specs.declared.answers.GptNext.{GptNext}
 use Rattle.card_c.specs.declared.answers.GptSlotRead.{GptSlotRead}
-use Rattle.card_c.specs.declared.answers.CardUsedRead.{CardUsedRead}
 use Rattle.card_c.specs.declared.headers.GptHeaderRead.{GptHeaderRead}
 use Rattle.card_c.specs.declared.headers.GptHeaderWritten.{GptHeaderWritten}
 use Rattle.card_c.specs.declared.headers.GptSum.{GptSum}
@@ -56,11 +52,6 @@ crossed make z (refused w) = make (w .number) z
 unfoldable pub aside : {A S : Type 0} → (ℕ → A → S) → Beside A → S
 aside make r = make (numberOf (r .verdict)) (r .value)
 
--- the slot is the one that 22 or 25 carries
-unfoldable pub answerToC : Answer Unit → CardAnswer
-answerToC (accepted u) = record { number = 0; slot = 0 }
-answerToC (refused w) = record { number = w .number; slot = w .slot .0 }
-
 abbrev pub storedToC : Answer ℕ → GptStored
 storedToC a = crossed (λ k n. record { number = k; bytes = n }) 0 a
 
@@ -76,13 +67,6 @@ heldMade k f = record { number = k; present = f .present; partition = f .partiti
 
 abbrev pub heldToC : Answer Found → GptSlotRead
 heldToC a = crossed heldMade (record { present = false; partition = zeroPartition }) a
-
-abbrev pub usedMade : ℕ → Used → CardUsedRead
-usedMade k u = record { number = k; found = u .found; slot = u .slot; partition = u .partition }
-
--- the entry of a list of at most one; of none, as beside a refusal, slot 0 and the zero record
-abbrev pub usedToC : Answer (List Listed) → CardUsedRead
-usedToC a = crossed usedMade (firstUsed []) (andThen a (λ l. accepted (firstUsed l)))
 
 -- ---- headers
 

@@ -1,11 +1,11 @@
-// The card calls for C.
+// The card calls for C. Each answer says where the card check refused (document 02, 5/13).
 use crate::answers;
 use crate::answers::CardAnswer;
+use crate::answers::CardCount;
+use crate::answers::CardNext;
+use crate::answers::CardSlotRead;
+use crate::answers::CardStored;
 use crate::answers::CardUsedRead;
-use crate::answers::GptCount;
-use crate::answers::GptNext;
-use crate::answers::GptSlotRead;
-use crate::answers::GptStored;
 use partition::Partition;
 use units::BytePlace;
 use units::Guid;
@@ -19,7 +19,8 @@ ghost use Rattle.tables.specs.Check.{checkAnswer};
 ghost use Rattle.listing.specs.Listing.{countAnswer, nextAnswer, slotRead, nthAnswer};
 ghost use Rattle.listing.specs.LentRow.{listingRead};
 ghost use Rattle.rows.specs.RowBytes.{bytesOutcome};
-ghost use Rattle.card_c.specs.Exports.{outcomeToC, answerToC, storedToC, countToC, nextToC, heldToC, usedToC};
+ghost use Rattle.card_c.specs.Exports.{outcomeToC};
+ghost use Rattle.card_c.specs.CardExports.{answerToC, cardStoredToC, cardCountToC, cardNextToC, cardHeldToC, usedToC};
 
 // Lays an empty card: 1, 8, 10.
 #[no_mangle]
@@ -29,7 +30,7 @@ pub extern "C" fn card_lay(img: &mut [u8], b: u64, guid: Guid) -> CardAnswer
     answers::answer_to_c(card::lay(img, b, guid))
 }
 
-// The card check: 1, 8, 10; 4, 5, 16, 6 of each table; 17, 16.
+// The card check: 1, 8, 10; 4, 5, 16, 6 of each table, front or back; 17, with the disk GUID or a slot; 16, front.
 #[no_mangle]
 pub extern "C" fn card_check(img: &[u8], b: u64) -> CardAnswer
     ensures { λ r. ⌜ r ≡ answerToC (checkAnswer b (now (img .entry))) ⌝ }
@@ -61,34 +62,34 @@ pub extern "C" fn card_write_payload(
     slot: u32,
     place: usize,
     bytes: &[u8],
-) -> GptStored
-    ensures { λ r. ⌜ Ends (outcomeToC storedToC (payloadOutcome b (now (img .entry)) slot place (now (bytes .entry)))) r (now (img .exit)) ⌝ }
+) -> CardStored
+    ensures { λ r. ⌜ Ends (outcomeToC cardStoredToC (payloadOutcome b (now (img .entry)) slot place (now (bytes .entry)))) r (now (img .exit)) ⌝ }
 {
-    answers::stored_to_c(card::write_payload(img, b, Slot(slot), BytePlace(place), bytes))
+    answers::card_stored_to_c(card::write_payload(img, b, Slot(slot), BytePlace(place), bytes))
 }
 
 // How many slots are used: the check's numbers.
 #[no_mangle]
-pub extern "C" fn card_count_used(img: &[u8], b: u64) -> GptCount
-    ensures { λ r. ⌜ r ≡ countToC (countAnswer b (now (img .entry))) ⌝ }
+pub extern "C" fn card_count_used(img: &[u8], b: u64) -> CardCount
+    ensures { λ r. ⌜ r ≡ cardCountToC (countAnswer b (now (img .entry))) ⌝ }
 {
-    answers::count_to_c(listing::count_used(img, b))
+    answers::card_count_to_c(listing::count_used(img, b))
 }
 
 // The first used slot after a slot, where slot 0 stands before the first: the check's numbers.
 #[no_mangle]
-pub extern "C" fn card_next_used(img: &[u8], b: u64, after: u32) -> GptNext
-    ensures { λ r. ⌜ r ≡ nextToC (nextAnswer b (now (img .entry)) after) ⌝ }
+pub extern "C" fn card_next_used(img: &[u8], b: u64, after: u32) -> CardNext
+    ensures { λ r. ⌜ r ≡ cardNextToC (nextAnswer b (now (img .entry)) after) ⌝ }
 {
-    answers::next_to_c(listing::next_used(img, b, Slot(after)))
+    answers::card_next_to_c(listing::next_used(img, b, Slot(after)))
 }
 
 // What a slot holds: 18 after the check.
 #[no_mangle]
-pub extern "C" fn card_read_slot(img: &[u8], b: u64, slot: u32) -> GptSlotRead
-    ensures { λ r. ⌜ r ≡ heldToC (slotRead b (now (img .entry)) slot) ⌝ }
+pub extern "C" fn card_read_slot(img: &[u8], b: u64, slot: u32) -> CardSlotRead
+    ensures { λ r. ⌜ r ≡ cardHeldToC (slotRead b (now (img .entry)) slot) ⌝ }
 {
-    answers::slot_to_c(listing::read_slot(img, b, Slot(slot)))
+    answers::card_slot_to_c(listing::read_slot(img, b, Slot(slot)))
 }
 
 // Used slot k with its record, counted from 0: the check's numbers.
@@ -101,9 +102,10 @@ pub extern "C" fn card_nth_used(img: &[u8], b: u64, k: u32) -> CardUsedRead
 
 // The listing into lent bytes, 136 bytes an entry, and how many there are: 15 after the check, where there are fewer bytes.
 #[no_mangle]
-pub extern "C" fn card_list(img: &[u8], b: u64, out: &mut [u8]) -> GptCount
-    ensures { λ r. ⌜ Ends (outcomeToC countToC (bytesOutcome (listingRead b (now (img .entry)) (length (now (out .entry)) / 136)) (now (out .entry)))) r (now (out .exit)) ⌝ }
+pub extern "C" fn card_list(img: &[u8], b: u64, out: &mut [u8]) -> CardCount
+    ensures { λ r. ⌜ Ends (outcomeToC cardCountToC (bytesOutcome (listingRead b (now (img .entry)) (length (now (out .entry)) / 136)) (now (out .entry)))) r (now (out .exit)) ⌝ }
 {
     let p = listing::inner::plan_of(img, b);
-    answers::count_to_c(rows::inner::fill_bytes(img, p, out))
+    let q = rows::inner::fill_bytes(img, p, out);
+    answers::card_count_to_c(listing::inner::count_by(q))
 }

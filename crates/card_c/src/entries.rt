@@ -243,5 +243,6 @@ pub extern "C" fn gpt_file_read_partitions(
     ensures { λ r. ⌜ Ends (outcomeToC countToC (bytesOutcome (partitionsRead (now (img .entry)) h b (length (now (out .entry)) / 136)) (now (out .entry)))) r (now (out .exit)) ⌝ }
 {
     let p = rows::inner::plan_for(img, h, b);
-    answers::count_to_c(rows::inner::fill_bytes(img, p, out))
+    let q = rows::inner::fill_bytes(img, p, out);
+    answers::count_to_c(q.answer())
 }

@@ -3,13 +3,13 @@
 use crate::bytes;
 use crate::say;
 use crate::script;
+use listing::CardCount;
+use listing::CardNext;
 use partition::Flags;
-use partition::NextPartition;
 use partition::Partition;
-use partition::PartitionCount;
+use units::CardVerdict;
 use units::Guid;
 use units::Tail;
-use units::Verdict;
 
 // The GUIDs here differ in their last byte alone: 0 is the disk's, and a partition has its slot's number there.
 fn some_guid(last: u8) -> Guid {
@@ -43,7 +43,7 @@ fn record(part_type_guid: Guid, line: &[u8]) -> Partition {
     }
 }
 
-fn put(img: &mut [u8], b: u64, part_type: Guid, line: &[u8]) -> Verdict {
+fn put(img: &mut [u8], b: u64, part_type: Guid, line: &[u8]) -> CardVerdict {
     card::put(img, b, script::slot(line, 0), record(part_type, line))
 }
 
@@ -56,7 +56,7 @@ fn given_guid(last: u8) -> Guid {
 }
 
 // A put of a record with another slot's GUID, or the nil one: the GUID's last byte, slot, first and last block, flags.
-fn put_bearing(img: &mut [u8], b: u64, line: &[u8]) -> Verdict {
+fn put_bearing(img: &mut [u8], b: u64, line: &[u8]) -> CardVerdict {
     let p = Partition {
         part_type_guid: basic_data(),
         part_guid: given_guid(script::byte(line, 0)),
@@ -69,7 +69,7 @@ fn put_bearing(img: &mut [u8], b: u64, line: &[u8]) -> Verdict {
 }
 
 // A call that accepts or refuses: lay, a put of a record whose type is nil, one with a given GUID, clear, and else a put.
-fn change(img: &mut [u8], b: u64, line: &[u8]) -> Verdict {
+fn change(img: &mut [u8], b: u64, line: &[u8]) -> CardVerdict {
     match script::command(line) {
         b'l' => card::lay(img, b, some_guid(0)),
         b'n' => put(img, b, Guid::nil(), line),
@@ -108,8 +108,8 @@ pub fn write(img: &mut [u8], b: u64, line: &[u8]) {
 
 pub fn used(img: &[u8], b: u64) {
     match card::count_used(img, b) {
-        PartitionCount::Present(n) => say::number(b": ", n as u64),
-        PartitionCount::Refused(w) => say::refused(w),
+        CardCount::Used(n) => say::number(b": ", n as u64),
+        CardCount::Refused(w) => say::refused(w),
     }
     say::text(b"\n");
 }
@@ -117,9 +117,9 @@ pub fn used(img: &[u8], b: u64) {
 // The next used slot after one.
 pub fn after(img: &[u8], b: u64, line: &[u8]) {
     match card::next_used(img, b, script::slot(line, 0)) {
-        NextPartition::At(next) => say::number(b": slot ", next.0 as u64),
-        NextPartition::NoMore => say::text(b": none"),
-        NextPartition::Refused(w) => say::refused(w),
+        CardNext::At(next) => say::number(b": slot ", next.0 as u64),
+        CardNext::NoMore => say::text(b": none"),
+        CardNext::Refused(w) => say::refused(w),
     }
     say::text(b"\n");
 }
@@ -171,10 +171,10 @@ fn whole(p: Partition) {
     units_of(name);
 }
 
-fn absent(v: Verdict) {
+fn absent(v: CardVerdict) {
     match v {
-        Verdict::Accepted => say::text(b": empty"),
-        Verdict::Refused(w) => say::refused(w),
+        CardVerdict::Accepted => say::text(b": empty"),
+        CardVerdict::Refused(w) => say::refused(w),
     }
 }
 

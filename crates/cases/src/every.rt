@@ -1,17 +1,24 @@
 // The numbers of all calls that start with the card check. They are given slot 0 and a nil type, so that a call that does not check first answers 18.
 use crate::say;
-use partition::NextPartition;
+use listing::CardCount;
+use listing::CardNext;
 use partition::Partition;
-use partition::PartitionCount;
 use units::BytePlace;
+use units::CardStored;
+use units::CardVerdict;
+use units::Reason;
 use units::Slot;
-use units::Stored;
-use units::Verdict;
 
-fn number_of(v: Verdict) -> u64 {
+// The number alone: the place is left out.
+fn number_in(r: Reason) -> u64 {
+    let w = r.what;
+    w.number() as u64
+}
+
+fn number_of(v: CardVerdict) -> u64 {
     match v {
-        Verdict::Accepted => 0,
-        Verdict::Refused(w) => w.number() as u64,
+        CardVerdict::Accepted => 0,
+        CardVerdict::Refused(w) => number_in(w),
     }
 }
 
@@ -29,23 +36,23 @@ fn clear(img: &mut [u8], b: u64) -> u64 {
 
 fn payload(img: &mut [u8], b: u64) -> u64 {
     match card::write_payload(img, b, Slot(0), BytePlace(0), b"x") {
-        Stored::Bytes(_n) => 0,
-        Stored::Refused(w) => w.number() as u64,
+        CardStored::Bytes(_n) => 0,
+        CardStored::Refused(w) => number_in(w),
     }
 }
 
 fn count(img: &[u8], b: u64) -> u64 {
     match card::count_used(img, b) {
-        PartitionCount::Present(_n) => 0,
-        PartitionCount::Refused(w) => w.number() as u64,
+        CardCount::Used(_n) => 0,
+        CardCount::Refused(w) => number_in(w),
     }
 }
 
 fn next(img: &[u8], b: u64) -> u64 {
     match card::next_used(img, b, Slot(0)) {
-        NextPartition::At(_s) => 0,
-        NextPartition::NoMore => 0,
-        NextPartition::Refused(w) => w.number() as u64,
+        CardNext::At(_s) => 0,
+        CardNext::NoMore => 0,
+        CardNext::Refused(w) => number_in(w),
     }
 }
 

@@ -1,8 +1,9 @@
 // The words of an answer.
 use libc::STDOUT_FILENO;
+use units::CardStored;
+use units::CardVerdict;
+use units::Reason;
 use units::Refusal;
-use units::Stored;
-use units::Verdict;
 
 pub fn text(s: &[u8]) {
     io::write_all(STDOUT_FILENO, s);
@@ -59,8 +60,9 @@ pub fn unchanged(is: bool) {
     }
 }
 
-// A refusal's number, and the slot that it carries.
-pub fn refused(w: Refusal) {
+// A refusal's number, and the slot that it carries. The place is left out.
+pub fn refused(r: Reason) {
+    let w = r.what;
     number(b": refused ", w.number() as u64);
     match w {
         Refusal::Overlap(slot) | Refusal::TwinGuid(slot) => number(b", slot ", slot.0 as u64),
@@ -69,10 +71,10 @@ pub fn refused(w: Refusal) {
 }
 
 // The end of a line: accepted, or refused and whether the image is as it was.
-pub fn verdict(v: Verdict, same: bool) {
+pub fn verdict(v: CardVerdict, same: bool) {
     match v {
-        Verdict::Accepted => text(b": accepted\n"),
-        Verdict::Refused(w) => {
+        CardVerdict::Accepted => text(b": accepted\n"),
+        CardVerdict::Refused(w) => {
             refused(w);
             unchanged(same);
         }
@@ -80,13 +82,13 @@ pub fn verdict(v: Verdict, same: bool) {
 }
 
 // The same of a payload write, with the bytes that it says it stored.
-pub fn stored(v: Stored, same: bool) {
+pub fn stored(v: CardStored, same: bool) {
     match v {
-        Stored::Bytes(n) => {
+        CardStored::Bytes(n) => {
             number(b": accepted, ", n as u64);
             text(b" bytes\n");
         }
-        Stored::Refused(w) => {
+        CardStored::Refused(w) => {
             refused(w);
             unchanged(same);
         }

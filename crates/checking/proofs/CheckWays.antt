@@ -2,17 +2,20 @@
 use mathlib.Core.Path.{_≡_, refl, sym, ap, _∙_}
 use mathlib.Core.Bool.{Bool, true, false, not, _&&_}
 use mathlib.Core.List.{List}
-use Prim.Native.Nat.{ℕ, _+_, _*_, _-_, _≤_, _<_}
+use Prim.Native.Nat.{ℕ, _+_, _*_, _-_, _<_}
 use native.Mathlib.Omega.{arith}
 use borrow.Author.Tests.{eq-eqb, ne-eqb, not-true, not-false}
 use lib.Dec.{eqb, ltb, leb}
 use lib.ListN.{drop}
 use lib.Seq.{take-take}
 use Rattle.units.specs.Places.{goodSize}
-use Rattle.units.proofs.Chains.{past, named-when, named-else, Named, found, named-is, none-when, else-first, else-second, none, last}
+use Rattle.units.proofs.Chains.{past, past-at, found, found-at, found-bare, Named, named-is, named-at, named-when, named-else, named-within, none-when, else-first, else-second, none, last}
+use Rattle.units.specs.declared.Slot.{Slot}
+use Rattle.units.specs.declared.Place.{Place}
+use Rattle.units.specs.declared.Place.the-variants as place
 use Rattle.units.specs.declared.why.Why.{Why}
 use Rattle.units.specs.declared.Refusal.the-variants.{BadBlockSize, InvalidGptSignature, InvalidCRC32Checksum, PartsCrc, ToSmallForBackup, BackupLbaToEarly, WrongLayout, Disagree, BadSlot}
-use Rattle.units.specs.Answer.{pick, orElse, fine, plain, when}
+use Rattle.units.specs.Answer.{orElse, fine, plain, placed, within, when}
 use Rattle.units.specs.Bytes.{part, num, same, allZero}
 use Rattle.units.proofs.Laws.{num-part}
 use Rattle.crc32.specs.Crc.{crc}
@@ -25,10 +28,11 @@ use Rattle.tables.specs.Places.{firstUsable, lastUsable, arrayBlocks, blocks}
 use Rattle.tables.specs.Lens.{Tables, Side, Front, Back}
 use Rattle.tables.specs.Entries.{entry, used, firstOf, lastOf, usable, okEntry, allOk, overlaps, allApart, allSingle, entriesOk}
 use Rattle.tables.specs.Headers.{laidFields}
-use Rattle.tables.specs.Check.{roomCheck, copyCheck, headOf, guidOf, check, tableCheck, pairCheck, slotCheck, badSlot}
+use Rattle.tables.specs.Check.{roomCheck, copyCheck, headOf, guidOf, differs, check, tableCheck, pairCheck, slotCheck, badSlot}
 use Rattle.tables.proofs.Orders.{by-test, triangle}
 use Rattle.tables.proofs.EntryLaws.{entry-part, used-part, overlaps-comm, zero-front}
 use Rattle.tables.proofs.ReadCheck.{mark-part, header-part}
+use Rattle.tables.proofs.Dropped.{bare-room, bare-copy}
 
 -- ---- the parts that the code reads
 
@@ -102,7 +106,7 @@ module _ (B n : ℕ) (s : Side) (xs : List ℕ) (at : ℕ) (arr : List ℕ) {q :
   signed : q ≡ same (part (part xs at 92) 0 8) signature
   signed = e ∙ ap (λ (l : List ℕ). same l signature) (sym (mark-part xs at))
 
-  pub copy-unsigned : not q ≡ true → plain 4 ≡ copyCheck B n s (part xs at 92) arr
+  pub copy-unsigned : not q ≡ true → 4 ≡ copyCheck B n s (part xs at 92) arr .number
   unfolding copyCheck orElse
   copy-unsigned t = rw (← signed, t)
 
@@ -116,7 +120,7 @@ module _ (B n : ℕ) (s : Side) (xs : List ℕ) (at : ℕ) (arr : List ℕ) {q :
     parts : h .«crc32_parts» ≡ headerAt (part xs at 92) 0 .«crc32_parts»
     parts = ap (λ (y : Header). y .«crc32_parts») read
 
-    pub copy-other : (x ≡ h .crc32 → ⊥) → plain 5 ≡ copyCheck B n s (part xs at 92) arr
+    pub copy-other : (x ≡ h .crc32 → ⊥) → 5 ≡ copyCheck B n s (part xs at 92) arr .number
     unfolding copyCheck orElse
     copy-other d = rw (← signed, t, ne-eqb (headerSum (part xs at 92) 0) (headerAt (part xs at 92) 0 .crc32) (λ z. d (u ∙ sum-part xs at ∙ z ∙ sym own)))
 
@@ -127,16 +131,16 @@ module _ (B n : ℕ) (s : Side) (xs : List ℕ) (at : ℕ) (arr : List ℕ) {q :
       fields : f ≡ laidFields B n s (headerAt (part xs at 92) 0)
       fields = w ∙ ap (laidFields B n s) read
 
-      pub copy-wrong : not f ≡ true → plain 16 ≡ copyCheck B n s (part xs at 92) arr
+      pub copy-wrong : not f ≡ true → 16 ≡ copyCheck B n s (part xs at 92) arr .number
       unfolding copyCheck orElse
       copy-wrong d = rw (← signed, t, summed, ← fields, d)
 
       module _ (l : not f ≡ false) {sum : ℕ} (m : sum ≡ crc arr) where
-        pub copy-array : (sum ≡ h .«crc32_parts» → ⊥) → plain 6 ≡ copyCheck B n s (part xs at 92) arr
+        pub copy-array : (sum ≡ h .«crc32_parts» → ⊥) → 6 ≡ copyCheck B n s (part xs at 92) arr .number
         unfolding copyCheck orElse
         copy-array d = rw (← signed, t, summed, ← fields, l, ne-eqb (crc arr) (headerAt (part xs at 92) 0 .«crc32_parts») (λ z. d (m ∙ z ∙ sym parts)))
 
-        pub copy-right : sum ≡ h .«crc32_parts» → fine ≡ copyCheck B n s (part xs at 92) arr
+        pub copy-right : sum ≡ h .«crc32_parts» → 0 ≡ copyCheck B n s (part xs at 92) arr .number
         unfolding copyCheck orElse
         copy-right d = rw (← signed, t, summed, ← fields, l, eq-eqb (crc arr) (headerAt (part xs at 92) 0 .«crc32_parts») (sym m ∙ d ∙ parts))
 
@@ -156,39 +160,50 @@ module _ (B n : ℕ) (arr : List ℕ) {a : Bool} (e : a ≡ allOk B n arr) where
     unfolding entriesOk
     entries-single u g = g ∙ rw (← e, not-false a t, ← f, not-false d u)
 
-module _ (B n : ℕ) (g h x y : List ℕ) {q agree : Bool} (e : q ≡ same g h) (f : agree ≡ same x y) where
-  pub pair-differ : not (q && agree) ≡ true → plain 17 ≡ pairCheck B n g h x y
+module _ (B n : ℕ) (g h x y : List ℕ) {q : Bool} (e : q ≡ same g h) where
+  pub pair-guids : not q ≡ true → placed 17 place.DiskGuid ≡ pairCheck B n g h x y
   unfolding pairCheck orElse
-  pair-differ t = rw (← e, ← f, t)
+  pair-guids t = rw (← e, t)
 
-  module _ (t : not (q && agree) ≡ false) {o : Bool} (w : o ≡ entriesOk B n x) where
-    pub pair-entries : not o ≡ true → plain 16 ≡ pairCheck B n g h x y
+  module _ (t : not q ≡ false) {agree : Bool} (f : agree ≡ same x y) where
+    pub pair-slot : {s : Slot} → not agree ≡ true → s ≡ record { 0 = differs x y + 1 } → placed 17 (place.InSlot s) ≡ pairCheck B n g h x y
     unfolding pairCheck orElse
-    pair-entries v = rw (← e, ← f, t, ← w, v)
+    pair-slot u d = rw (← e, t, ← f, u, ← d)
 
-    pub pair-fine : not o ≡ false → fine ≡ pairCheck B n g h x y
-    unfolding pairCheck orElse
-    pair-fine v = rw (← e, ← f, t, ← w, v)
+    module _ (u : not agree ≡ false) {o : Bool} (w : o ≡ entriesOk B n x) where
+      pub pair-entries : not o ≡ true → placed 16 place.Front ≡ pairCheck B n g h x y
+      unfolding pairCheck orElse
+      pair-entries v = rw (← e, t, ← f, u, ← w, v)
+
+      pub pair-fine : not o ≡ false → fine ≡ pairCheck B n g h x y
+      unfolding pairCheck orElse
+      pair-fine v = rw (← e, t, ← f, u, ← w, v)
 
 -- ---- the order of the parts
 
-pub check-room : (B n : ℕ) (t : Tables) {f : Why} → f ≡ roomCheck B n → (f .number ≡ 0 → ⊥) → f ≡ check B n t
+pub check-room : (B n : ℕ) (t : Tables) {k : ℕ} → k ≡ roomCheck B n .number → (k ≡ 0 → ⊥) → plain k ≡ check B n t
 unfolding check
-check-room B n t e d = found _ e d
+check-room B n t e d = found-bare (roomCheck B n) _ (bare-room B n) e d
 
-module _ (B n : ℕ) (t : Tables) (r : roomCheck B n .number ≡ 0) {f : Why} (e : f ≡ tableCheck B n Front (t .front)) where
-  pub check-front : (f .number ≡ 0 → ⊥) → f ≡ check B n t
+module _ (B n : ℕ) (t : Tables) (r : roomCheck B n .number ≡ 0) {f : ℕ} (e : f ≡ tableCheck B n Front (t .front) .number) where
+  pub check-front : (f ≡ 0 → ⊥) → placed f place.Front ≡ check B n t
   unfolding check
-  check-front d = past refl r (found _ e d)
+  check-front d = past refl r (found-at place.Front (tableCheck B n Front (t .front)) _ (bare-copy B n Front (headOf (t .front)) (t .front .array)) e d)
 
-  module _ {k : Why} (z : f .number ≡ 0) (g : k ≡ tableCheck B n Back (t .back)) where
-    pub check-back : (k .number ≡ 0 → ⊥) → k ≡ check B n t
+  module _ {k : ℕ} (z : f ≡ 0) (g : k ≡ tableCheck B n Back (t .back) .number) where
+    pub check-back : (k ≡ 0 → ⊥) → placed k place.Back ≡ check B n t
     unfolding check
-    check-back d = past refl r (past e z (found _ g d))
+    check-back d =
+        past refl r
+        (past-at place.Front (tableCheck B n Front (t .front)) (sym e ∙ z)
+        (found-at place.Back (tableCheck B n Back (t .back)) _ (bare-copy B n Back (headOf (t .back)) (t .back .array)) g d))
 
-    pub check-pair : {m : Why} → k .number ≡ 0 → m ≡ pairCheck B n (guidOf (t .front)) (guidOf (t .back)) (t .front .array) (t .back .array) → m ≡ check B n t
+    pub check-pair : {m : Why} → k ≡ 0 → m ≡ pairCheck B n (guidOf (t .front)) (guidOf (t .back)) (t .front .array) (t .back .array) → m ≡ check B n t
     unfolding check
-    check-pair y q = past refl r (past e z (past g y q))
+    check-pair y q =
+        past refl r
+        (past-at place.Front (tableCheck B n Front (t .front)) (sym e ∙ z)
+        (past-at place.Back (tableCheck B n Back (t .back)) (sym g ∙ y) q))
 
 -- ---- 18 after the check
 
@@ -233,15 +248,19 @@ named-copy B n s x arr =
 named-pair : (B n : ℕ) (g h x y : List ℕ) → Named (pairCheck B n g h x y)
 unfolding pairCheck
 named-pair B n g h x y =
-    let differ : Bool = not (same g h && same x y) in
-    named-else (when differ (plain 17)) _ (named-when differ _ (named-is Disagree)) (named-when (not (entriesOk B n x)) _ (named-is WrongLayout))
+    let guids : Bool = not (same g h) in
+    let arrays : Bool = not (same x y) in
+    let slot : Place = place.InSlot (record { 0 = differs x y + 1 }) in
+    named-else (when guids (placed 17 place.DiskGuid)) _ (named-when guids _ (named-at Disagree place.DiskGuid))
+    (named-else (when arrays (placed 17 slot)) _ (named-when arrays _ (named-at Disagree slot))
+    (named-when (not (entriesOk B n x)) _ (named-at WrongLayout place.Front)))
 
 pub named-check : (B n : ℕ) (t : Tables) → Named (check B n t)
 unfolding check
 named-check B n t =
     named-else (roomCheck B n) _ (named-room B n)
-    (named-else (tableCheck B n Front (t .front)) _ (named-copy B n Front (headOf (t .front)) (t .front .array))
-    (named-else (tableCheck B n Back (t .back)) _ (named-copy B n Back (headOf (t .back)) (t .back .array))
+    (named-else (within place.Front (tableCheck B n Front (t .front))) _ (named-within place.Front _ (named-copy B n Front (headOf (t .front)) (t .front .array)))
+    (named-else (within place.Back (tableCheck B n Back (t .back))) _ (named-within place.Back _ (named-copy B n Back (headOf (t .back)) (t .back .array)))
     (named-pair B n (guidOf (t .front)) (guidOf (t .back)) (t .front .array) (t .back .array))))
 
 pub named-slot : (B n : ℕ) (t : Tables) (s : ℕ) → Named (slotCheck B n t s)

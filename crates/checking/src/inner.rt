@@ -1,11 +1,13 @@
-// The card check over two copies: 1 bad block size, 8 below three blocks, 10 no room; of each table 4 signature, 5 header sum, 16 layout, 6 array sum; 17 the tables
-// differ; 16 an entry is wrong, or two used ones have one partition GUID. The public call comes last; each `requires` before it is what a caller has tested.
+// The card check over two copies: 1 bad block size, 8 below three blocks, 10 no room; of each table 4 signature, 5 header sum, 16 layout, 6 array sum, front or back; 17 the
+// tables differ, in their disk GUIDs or first in a slot; 16 an entry is wrong, or two used ones have one partition GUID. The tests of one table give a number, and where it
+// was is said where the tables meet. The public call comes last; each `requires` before it is what a caller has tested.
 // `copy` is one table's own b + 16,384 bytes, as in `tables::inner`; `len` is the card's length in bytes.
 use header::Header;
 use units::BytePlace;
+use units::CardVerdict;
 use units::Lba;
+use units::Place;
 use units::Slot;
-use units::Verdict;
 use units::why;
 use units::why::Why;
 ghost use mathlib.Core.Path.{_≡_};
@@ -15,7 +17,7 @@ ghost use Prim.Native.Nat.{ℕ, _+_, _≤_, _<_};
 ghost use lib.ListN.{length};
 ghost use Rattle.units.proofs.Chains.{found, last};
 ghost use Rattle.units.specs.Bytes.{part, same};
-ghost use Rattle.units.specs.Meanings.{verdictMeans};
+ghost use Rattle.units.specs.Meanings.{cardMeans};
 ghost use Rattle.crc32.specs.Crc.{crc};
 ghost use Rattle.crc32.specs.Rows.{Rows};
 ghost use Rattle.tables.specs.Checks.{all};
@@ -23,7 +25,7 @@ ghost use Rattle.tables.specs.Places.{firstUsable, lastUsable};
 ghost use Rattle.tables.specs.Lens.{Front, Back, sideOf, copyIn, copies, tables};
 ghost use Rattle.tables.specs.Entries.{entry, used, firstOf, lastOf, okEntry, allOk, overlaps, allApart, entriesOk};
 ghost use Rattle.tables.specs.Headers.{alike, laidFields};
-ghost use Rattle.tables.specs.Check.{roomCheck, tableCheck, tablesCheck, check, slotCheck, checkAnswer};
+ghost use Rattle.tables.specs.Check.{roomCheck, tableCheck, differs, tablesCheck, check, slotCheck, checkAnswer};
 ghost use Rattle.checking.specs.Order.{startsAfter, greatestLast, Below};
 
 // Whether two headers are the same in all fields but the GUID and the sums.
@@ -73,7 +75,7 @@ fn back_sum<'a>(t: &'a [u32; 4096], copy: &'a [u8], b: u64, agree: bool, sum: u3
     tables::inner::array_sum(t, copy, b, true)
 }
 
-// 4 signature, 5 header sum, 16 layout, 6 array sum of one table, whose array has a sum.
+// The number that refuses one table, whose array has a sum, or 0: 4 signature, 5 header sum, 16 layout, 6 array sum.
 pub fn copy_check<'a>(
     t: &'a [u32; 4096],
     copy: &'a [u8],
@@ -81,11 +83,11 @@ pub fn copy_check<'a>(
     b: u64,
     back: bool,
     sum: u32,
-) -> Why
+) -> u32
     requires { ⌜ Rows 16 (now t) ⌝ }
     requires { ⌜ (roomCheck b len .number ≡ 0) × (length (now copy) ≡ b + 16384) ⌝ }
     requires { ⌜ sum ≡ crc (copyIn b (sideOf back) (now copy) .array) ⌝ }
-    ensures { λ r. ⌜ r ≡ tableCheck b len (sideOf back) (copyIn b (sideOf back) (now (copy .entry))) ⌝ }
+    ensures { λ r. ⌜ r ≡ tableCheck b len (sideOf back) (copyIn b (sideOf back) (now (copy .entry))) .number ⌝ }
 {
     let at = tables::inner::header_in(back);
     if !units::inner::same_at(copy, at.0, b"EFI PART") {
@@ -101,7 +103,7 @@ pub fn copy_check<'a>(
     if sum != h.crc32_parts {
         return why::PARTS_CRC;
     }
-    why::FINE
+    0
 }
 
 // Whether the entry at a place is all zero, or used and inside the usable blocks.
@@ -239,22 +241,49 @@ pub fn entries_ok(copy: &[u8], len: usize, b: u64, back: bool) -> bool
     twins::inner::all_single(copy, at)
 }
 
-// 17 the tables differ, in their GUIDs or their arrays; 16 the entries of the front array are wrong.
+// The first slot whose 128 bytes differ in the two arrays; 129 where none does. The check asks only where the arrays differ.
+fn first_differing<'a>(front: &'a [u8], back: &'a [u8], b: u64) -> Slot
+    requires { ⌜ (b ≤ 4096) × (length (now front) ≡ b + 16384) × (length (now back) ≡ b + 16384) ⌝ }
+    ensures { λ r. ⌜ r ≡ record { 0 = differs (copyIn b Front (now (front .entry)) .array) (copyIn b Back (now (back .entry)) .array) + 1 } ⌝ }
+{
+    let array = tables::inner::array_in(b, false);
+    let other = tables::inner::array_in(b, true);
+    let mut k = 0u32;
+    while k < 128 {
+        let one = partition::inner::entry_place(array, k as usize);
+        let two = partition::inner::entry_place(other, k as usize);
+        if !same_in(front, one, back, two, 128) {
+            return units::inner::slot_at(k);
+        }
+        k += 1;
+    }
+    units::inner::slot_at(128)
+}
+
+// 17 the tables differ, in their disk GUIDs or else first in a slot; 16 the entries of the front array are wrong.
 fn pair_check<'a>(front: &'a [u8], back: &'a [u8], agree: bool, len: usize, b: u64) -> Why
     requires { ⌜ (roomCheck b len .number ≡ 0) × (length (now front) ≡ b + 16384) × (length (now back) ≡ b + 16384) ⌝ }
     requires { ⌜ agree ≡ same (copyIn b Front (now front) .array) (copyIn b Back (now back) .array) ⌝ }
     ensures { λ r. ⌜ r ≡ tablesCheck b len (copies b (now (front .entry)) (now (back .entry))) ⌝ }
 {
-    if !(same_in(front, BytePlace(56), back, BytePlace(16384 + 56), 16) & agree) {
-        return why::DISAGREE;
+    if !same_in(front, BytePlace(56), back, BytePlace(16384 + 56), 16) {
+        return why::TWO_DISK_GUIDS;
+    }
+    if !agree {
+        let slot = first_differing(front, back, b);
+        return Why {
+            number: why::DISAGREE,
+            slot: Slot(0),
+            place: Place::InSlot(slot),
+        };
     }
     if !entries_ok(front, len, b, false) {
-        return why::WRONG_LAYOUT;
+        return why::WRONG_ENTRIES;
     }
     why::FINE
 }
 
-// The check of the two tables of a card that has room for them.
+// The check of the two tables of a card that has room for them: what refuses a table is said with its side.
 pub fn copies_check<'a>(
     t: &'a [u32; 4096],
     front: &'a [u8],
@@ -271,13 +300,21 @@ pub fn copies_check<'a>(
     let agree = same_in(front, array, back, other, 16384);
     let sum = tables::inner::array_sum(t, front, b, false);
     let front_found = copy_check(t, front, len, b, false, sum);
-    if front_found.number != 0 {
-        return front_found;
+    if front_found != 0 {
+        return Why {
+            number: front_found,
+            slot: Slot(0),
+            place: Place::Front,
+        };
     }
     let other_sum = back_sum(t, back, b, agree, sum);
     let back_found = copy_check(t, back, len, b, true, other_sum);
-    if back_found.number != 0 {
-        return back_found;
+    if back_found != 0 {
+        return Why {
+            number: back_found,
+            slot: Slot(0),
+            place: Place::Back,
+        };
     }
     pair_check(front, back, agree, len, b)
 }
@@ -289,8 +326,12 @@ pub fn check_with<'a>(t: &'a [u32; 4096], img: &'a [u8], b: u64) -> Why
 {
     let len = img.len();
     let room = tables::inner::room_check(len, b);
-    if room.number != 0 {
-        return room;
+    if room != 0 {
+        return Why {
+            number: room,
+            slot: Slot(0),
+            place: Place::Nowhere,
+        };
     }
     let size = b as usize;
     let at = tables::inner::back_place(len, b);
@@ -320,8 +361,8 @@ pub fn slot_check<'a>(t: &'a [u32; 4096], img: &'a [u8], b: u64, slot: Slot) -> 
 }
 
 // The card check.
-pub fn check(img: &[u8], b: u64) -> Verdict
-    ensures { λ r. ⌜ verdictMeans r ≡ checkAnswer b (now (img .entry)) ⌝ }
+pub fn check(img: &[u8], b: u64) -> CardVerdict
+    ensures { λ r. ⌜ cardMeans r ≡ checkAnswer b (now (img .entry)) ⌝ }
 {
     let t = crc32::inner::table();
     let found = check_with(&t, img, b);

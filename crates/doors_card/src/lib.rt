@@ -1,64 +1,72 @@
 // Doors: the public calls of card once more, in one line each, under their own contracts word for word.
 // Nobody calls them. They are there to be changed: each edit under must-fail puts an impostor behind a door, and the door's contract must refuse it.
+use listing::CardCount;
+use listing::CardNext;
+use listing::SlotRead;
 use listing::UsedRead;
-use partition::NextPartition;
 use partition::Partition;
-use partition::PartitionCount;
-use partition::PartitionRead;
 use units::BytePlace;
+use units::CardStored;
+use units::CardVerdict;
 use units::Guid;
+use units::Place;
+use units::Reason;
 use units::Refusal;
 use units::Slot;
-use units::Stored;
-use units::Verdict;
+use units::why::Why;
 ghost use mathlib.Core.Path.{_≡_};
 ghost use Rattle.units.specs.Answer.{Ends};
-ghost use Rattle.units.specs.Meanings.{verdictMeans, storedMeans};
+ghost use Rattle.units.specs.Meanings.{cardMeans, cardStoredMeans};
 ghost use Rattle.partition.specs.Array.{readingOf};
-ghost use Rattle.partition.specs.Meanings.{countMeans, nextMeans, readMeans};
 ghost use Rattle.tables.specs.Check.{checkAnswer};
 ghost use Rattle.listing.specs.Listing.{countAnswer, nextAnswer, slotRead, nthAnswer};
-ghost use Rattle.listing.specs.Meanings.{usedMeans, nthReading};
+ghost use Rattle.listing.specs.Meanings.{cardCountMeans, cardNextMeans, slotMeans, usedMeans, nthReading};
 ghost use Rattle.card.specs.Calls.{layOutcome, putOutcome, clearOutcome, payloadOutcome};
 
-pub fn lay(img: &mut [u8], b: u64, guid: Guid) -> Verdict
-    ensures { λ r. ⌜ Ends (layOutcome b (now (img .entry)) guid) (verdictMeans r) (now (img .exit)) ⌝ }
+pub fn lay(img: &mut [u8], b: u64, guid: Guid) -> CardVerdict
+    ensures { λ r. ⌜ Ends (layOutcome b (now (img .entry)) guid) (cardMeans r) (now (img .exit)) ⌝ }
 {
     card::lay(img, b, guid)
 }
 
-pub fn check(img: &[u8], b: u64) -> Verdict
-    ensures { λ r. ⌜ verdictMeans r ≡ checkAnswer b (now (img .entry)) ⌝ }
+pub fn check(img: &[u8], b: u64) -> CardVerdict
+    ensures { λ r. ⌜ cardMeans r ≡ checkAnswer b (now (img .entry)) ⌝ }
 {
     card::check(img, b)
 }
 
-pub fn put(img: &mut [u8], b: u64, slot: Slot, p: Partition) -> Verdict
-    ensures { λ r. ⌜ Ends (putOutcome b (now (img .entry)) (slot .0) p) (verdictMeans r) (now (img .exit)) ⌝ }
+pub fn put(img: &mut [u8], b: u64, slot: Slot, p: Partition) -> CardVerdict
+    ensures { λ r. ⌜ Ends (putOutcome b (now (img .entry)) (slot .0) p) (cardMeans r) (now (img .exit)) ⌝ }
 {
     card::put(img, b, slot, p)
 }
 
-pub fn clear(img: &mut [u8], b: u64, slot: Slot) -> Verdict
-    ensures { λ r. ⌜ Ends (clearOutcome b (now (img .entry)) (slot .0)) (verdictMeans r) (now (img .exit)) ⌝ }
+pub fn clear(img: &mut [u8], b: u64, slot: Slot) -> CardVerdict
+    ensures { λ r. ⌜ Ends (clearOutcome b (now (img .entry)) (slot .0)) (cardMeans r) (now (img .exit)) ⌝ }
 {
     card::clear(img, b, slot)
 }
 
-pub fn write_payload(img: &mut [u8], b: u64, slot: Slot, place: BytePlace, bytes: &[u8]) -> Stored
-    ensures { λ r. ⌜ Ends (payloadOutcome b (now (img .entry)) (slot .0) (place .0) (now (bytes .entry))) (storedMeans r) (now (img .exit)) ⌝ }
+pub fn write_payload(
+    img: &mut [u8],
+    b: u64,
+    slot: Slot,
+    place: BytePlace,
+    bytes: &[u8],
+) -> CardStored
+    ensures { λ r. ⌜ Ends (payloadOutcome b (now (img .entry)) (slot .0) (place .0) (now (bytes .entry))) (cardStoredMeans r) (now (img .exit)) ⌝ }
 {
     card::write_payload(img, b, slot, place, bytes)
 }
 
-pub fn count_used(img: &[u8], b: u64) -> PartitionCount
-    ensures { λ r. ⌜ countMeans r ≡ countAnswer b (now (img .entry)) ⌝ }
+pub fn count_used(img: &[u8], b: u64) -> CardCount
+    ensures { λ r. ⌜ cardCountMeans r ≡ countAnswer b (now (img .entry)) ⌝ }
 {
     card::count_used(img, b)
 }
 
-pub fn next_used(img: &[u8], b: u64, after: Slot) -> NextPartition
-    ensures { λ r. ⌜ nextMeans r ≡ nextAnswer b (now (img .entry)) (after .0) ⌝ }
+pub fn next_used(img: &[u8], b: u64, after: Slot) -> CardNext
+    ensures { λ r. ⌜ cardNextMeans r ≡ nextAnswer b (now (img .entry)) (after .0) ⌝ }
 {
     card::next_used(img, b, after)
 }
@@ -69,8 +77,8 @@ pub fn nth_used(img: &[u8], b: u64, k: u32) -> UsedRead
     card::nth_used(img, b, k)
 }
 
-pub fn read_slot(img: &[u8], b: u64, slot: Slot) -> PartitionRead
-    ensures { λ r. ⌜ readMeans r ≡ readingOf (slotRead b (now (img .entry)) (slot .0)) ⌝ }
+pub fn read_slot(img: &[u8], b: u64, slot: Slot) -> SlotRead
+    ensures { λ r. ⌜ slotMeans r ≡ readingOf (slotRead b (now (img .entry)) (slot .0)) ⌝ }
 {
     card::read_slot(img, b, slot)
 }

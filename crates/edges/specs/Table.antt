@@ -8,6 +8,8 @@ use lib.Dec.{eqb}
 use lib.ListN.{getD, replicate}
 use Rattle.units.specs.declared.Lba.{Lba}
 use Rattle.units.specs.declared.Guid.{Guid}
+use Rattle.units.specs.declared.Place.{Place}
+use Rattle.units.specs.declared.Place.the-variants as place
 use Rattle.units.specs.Answer.{Answer, accepted, refused, numberOf, refuse, andThen}
 use Rattle.units.specs.Bytes.{le, num, bytes, same}
 use Rattle.units.specs.Guids.{guidAt, nilGuid}
@@ -27,12 +29,24 @@ pub record Case : Type 0 where
 abbrev says : Answer (List ℕ) → Answer (List ℕ) → Case
 says x y = record { computed = x; expected = y }
 
+-- two places are the same: no case of the document has one
+unfoldable pub samePlace : Place → Place → Bool
+samePlace place.Nowhere place.Nowhere = true
+samePlace place.Nowhere place.Front = false
+samePlace place.Nowhere place.Back = false
+samePlace place.Nowhere place.DiskGuid = false
+samePlace place.Nowhere (place.InSlot s) = false
+samePlace place.Front q = false
+samePlace place.Back q = false
+samePlace place.DiskGuid q = false
+samePlace (place.InSlot s) q = false
+
 -- two answers are the same
 unfoldable pub sameAnswer : Answer (List ℕ) → Answer (List ℕ) → Bool
 sameAnswer (accepted xs) (accepted ys) = same xs ys
 sameAnswer (accepted xs) (refused w) = false
 sameAnswer (refused v) (accepted ys) = false
-sameAnswer (refused v) (refused w) = eqb (v .number) (w .number) && (eqb (v .slot .0) (w .slot .0) && eqb (v .place) (w .place))
+sameAnswer (refused v) (refused w) = eqb (v .number) (w .number) && (eqb (v .slot .0) (w .slot .0) && samePlace (v .place) (w .place))
 
 -- every case of a table gives what the document says
 unfoldable pub allPass : List Case → Bool
@@ -138,5 +152,5 @@ table =
 
 -- all fourteen cases, by one computation
 pub edges : allPass table ≡ true
-unfolding table numbers allPass sameAnswer same built builtWith goodSize sectorsLen backupBlock num le bytes
+unfolding table numbers allPass samePlace sameAnswer same built builtWith goodSize sectorsLen backupBlock num le bytes
 edges = refl

@@ -4,8 +4,8 @@
 use console::Input;
 use partition::Length;
 use partition::Partition;
+use units::CardVerdict;
 use units::Slot;
-use units::Verdict;
 ghost use mathlib.Core.Path.{_≡_};
 ghost use mathlib.Core.Bool.{false};
 ghost use Prim.Native.Nat.{_-_};
@@ -66,8 +66,11 @@ fn print_slots(img: &[u8], ok: &mut bool) -> u32
 
 fn list(img: &[u8], ok: &mut bool) {
     match card::check(img, 512) {
-        Verdict::Refused(w) => say(b"refused ", w.number() as u64, ok),
-        Verdict::Accepted => {
+        CardVerdict::Refused(w) => {
+            let what = w.what;
+            say(b"refused ", what.number() as u64, ok)
+        }
+        CardVerdict::Accepted => {
             console::text(b"slot first last blocks\n", ok);
             let lines = print_slots(img, ok);
             say(b"used ", lines as u64, ok);

@@ -3,16 +3,14 @@
 use mathlib.Core.Path.{_≡_, refl, sym, ap, _∙_}
 use mathlib.Core.Bool.{Bool, true, false}
 use mathlib.Core.List.{List, [], _∷_, map}
-use Prim.Native.Nat.{ℕ, zero, suc, _+_, _*_, _-_, _≤_, _<_}
+use Prim.Native.Nat.{ℕ, zero, suc, _+_, _-_, _≤_, _<_}
 use native.Mathlib.Omega.{arith}
-use borrow.Author.Tests.{le-leb}
 use lib.Dec.{ltb}
 use lib.ListN.{length}
-use Rattle.units.specs.declared.Refusal.{Refusal}
+use Rattle.units.specs.declared.Reason.{Reason}
 use Rattle.units.specs.declared.why.Why.{Why}
-use Rattle.units.specs.Answer.{plain, when, orElse, ifZero, judged, Answer, accepted, refused, refuse, pick, andThen}
-use Rattle.units.specs.Places.{inside, insideOrEmpty}
-use Rattle.units.specs.Refusals.{refusedBy}
+use Rattle.units.specs.Answer.{plain, when, orElse, ifZero, judged, accepted, refused, refuse, pick, andThen}
+use Rattle.units.specs.Refusals.{whyAt}
 use Rattle.partition.specs.Format.{entryAt}
 use Rattle.partition.specs.Array.{entryPlace, present, presentFrom}
 use Rattle.rows.specs.declared.Entry.{Entry}
@@ -20,7 +18,7 @@ use Rattle.rows.specs.declared.inner.Plan.{Plan}
 use Rattle.rows.specs.Row.{entryOf, presentEntries}
 use Rattle.rows.specs.Plans.{Made, planned, noPlan, roomed}
 use Rattle.rows.proofs.Laws.{length-map, made-none, planned-none}
-use Rattle.tables.specs.Lens.{Tables, tablesAt, tables}
+use Rattle.tables.specs.Lens.{Tables, tables}
 use Rattle.tables.specs.Check.{check, checkAnswer}
 use Rattle.listing.proofs.Ways.{judged-refuses, judged-accepts}
 use Rattle.listing.proofs.Agree.{judged-map}
@@ -57,7 +55,7 @@ entries-in-image B xs =
 -- ---- the plan
 
 module _ (B : ℕ) (xs : List ℕ) {p : Plan} where
-  pub plan-refused : {w : Refusal} → checkAnswer B xs ≡ refusedBy w → p ≡ noPlan w → Made xs p × (planned xs p ≡ cardEntries B xs)
+  pub plan-refused : {w : Reason} → checkAnswer B xs ≡ refused (whyAt w) → p ≡ noPlan w → Made xs p × (planned xs p ≡ cardEntries B xs)
   unfolding cardEntries
   plan-refused {w} e f = rw f (made-none xs w, planned-none xs w ∙ sym (judged-refuses (entriesIn (tables B xs)) (check B (length xs) (tables B xs)) e))
 

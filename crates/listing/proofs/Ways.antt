@@ -9,8 +9,8 @@ use borrow.Author.Tests.{le-leb, le-ltb}
 use lib.ListN.{length, take, drop, getD, drop-of-length-le, List·getD-eq-default}
 use lib.Seq.{drop-cons, drop-drop, getD-drop}
 use Rattle.units.specs.declared.why.Why.{Why}
-use Rattle.units.specs.declared.Refusal.{Refusal}
-use Rattle.units.specs.Refusals.{why, refusalOf, refusedBy}
+use Rattle.units.specs.declared.Reason.{Reason}
+use Rattle.units.specs.Refusals.{whyAt, reasonOf}
 use Rattle.units.proofs.Chains.{past, else-first, judged-none, judged-zero, judged-some, number-of}
 use Rattle.units.specs.Answer.{ifZero, when, plain, judged, Answer, accepted, refused, Beside, beside}
 use Rattle.units.specs.Bytes.{part, allZero}
@@ -135,12 +135,12 @@ module _ (B : ℕ) (xs : List ℕ) (e : checkAnswer B xs ≡ accepted tt) where
 
 -- the tests of a call on one slot, and what it reads of the slot
 module _ (B : ℕ) (xs : List ℕ) (s : ℕ) {f : Why} (e : f ≡ slotCheck B (length xs) (tables B xs) s) where
-  pub slot-refused : {r : Refusal} → (f .number ≡ 0 → ⊥) → r ≡ refusalOf f
-      → record { verdict = refusedBy r; value = record { present = false; partition = zeroPartition } } ≡ readingOf (slotRead B xs s)
+  pub slot-refused : {r : Reason} → (f .number ≡ 0 → ⊥) → r ≡ reasonOf f
+      → record { verdict = refused (whyAt r); value = record { present = false; partition = zeroPartition } } ≡ readingOf (slotRead B xs s)
   unfolding beside
   slot-refused {r} d q =
       let n : slotCheck B (length xs) (tables B xs) s .number ≡ 0 → ⊥ = λ z. d (number-of e ∙ z) in
-      let w : why r ≡ slotCheck B (length xs) (tables B xs) s = ap why q ∙ ap (λ (x : Why). why (refusalOf x)) e ∙ named-slot B (length xs) (tables B xs) s .name n in
+      let w : whyAt r ≡ slotCheck B (length xs) (tables B xs) s = ap whyAt q ∙ ap (λ (x : Why). whyAt (reasonOf x)) e ∙ named-slot B (length xs) (tables B xs) s .name n in
       ap (λ (x : Why). readingOf (refused x)) w ∙ sym (ap readingOf (judged-some _ (slotCheck B (length xs) (tables B xs) s) n))
 
   pub slot-tested : f .number ≡ 0 → (roomCheck B (length xs) .number ≡ 0) × (badSlot s ≡ false)

@@ -1,24 +1,29 @@
 // Leaves for our own crates: each `requires` is what its caller has tested. Room for two tables is all that they need to stay inside the image; that the card
 // passes the check is for the caller to know. No public calls.
+use crate::CardCount;
+use crate::SlotRead;
 use crate::UsedRead;
 use partition::Partition;
 use rows::inner::Plan;
 use units::BytePlace;
+use units::CardVerdict;
 use units::Lba;
+use units::Reason;
 use units::Slot;
-use units::Verdict;
 ghost use mathlib.Core.Path.{_≡_};
 ghost use mathlib.Core.Bool.{false};
 ghost use Prim.Native.Nat.{_+_, _*_, _-_, _≤_};
 ghost use lib.ListN.{length, getD};
 ghost use Rattle.units.proofs.Chains.{found};
+ghost use Rattle.units.specs.declared.CardVerdict.the-variants as verdict;
 ghost use Rattle.partition.specs.Format.{entryAt, zeroPartition};
 ghost use Rattle.partition.specs.Array.{entryPlace, present, firstSlot};
-ghost use Rattle.rows.specs.Plans.{Made, planned};
+ghost use Rattle.rows.specs.Plans.{Made, planned, countBy};
 ghost use Rattle.tables.specs.Lens.{tables};
 ghost use Rattle.tables.specs.Check.{roomCheck, badSlot};
 ghost use Rattle.listing.specs.Listing.{presentSlots};
 ghost use Rattle.listing.specs.LentRow.{cardEntries};
+ghost use Rattle.listing.specs.Meanings.{cardCountMeans};
 
 // Where the front array stands in an image, and in whatever begins like one.
 pub fn front_array(b: u64) -> BytePlace
@@ -91,8 +96,19 @@ pub fn slot_entry(img: &[u8], b: u64, slot: Slot) -> Partition
     partition::inner::entry_at(img, at.0)
 }
 
+// The answer of a slot read that is refused: the zero record, absent.
+pub fn refused(w: Reason) -> SlotRead
+    ensures { λ r. ⌜ r ≡ record { verdict = verdict.Refused w; present = false; partition = zeroPartition } ⌝ }
+{
+    SlotRead {
+        verdict: CardVerdict::Refused(w),
+        present: false,
+        partition: Partition::zero(),
+    }
+}
+
 // The answer where no used slot was found: slot 0 and the zero record.
-pub fn none_used(verdict: Verdict) -> UsedRead
+pub fn none_used(verdict: CardVerdict) -> UsedRead
     ensures { λ r. ⌜ r ≡ record { verdict = verdict; found = false; slot = record { 0 = 0 }; partition = zeroPartition } ⌝ }
 {
     UsedRead {
@@ -108,7 +124,18 @@ pub fn plan_of(img: &[u8], b: u64) -> Plan
     ensures { λ r. ⌜ Made (now (img .entry)) r × (planned (now (img .entry)) r ≡ cardEntries b (now (img .entry))) ⌝ }
 {
     match checking::check(img, b) {
-        Verdict::Refused(w) => Plan::refused(w),
-        Verdict::Accepted => Plan::listing(img, front_array(b), 128),
+        CardVerdict::Refused(w) => Plan::refused(w),
+        CardVerdict::Accepted => Plan::listing(img, front_array(b), 128),
+    }
+}
+
+// The count of a plan that was carried out, or its refusal with the place.
+pub fn count_by(p: Plan) -> CardCount
+    ensures { λ r. ⌜ cardCountMeans r ≡ countBy p ⌝ }
+{
+    let verdict = p.verdict;
+    match verdict {
+        CardVerdict::Accepted => CardCount::Used(p.present),
+        CardVerdict::Refused(w) => CardCount::Refused(w),
     }
 }

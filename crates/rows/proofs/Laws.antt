@@ -1,25 +1,28 @@
 -- The laws of a plan and of the row that it fills: what each way of making a plan gives, how the entries that are left are taken one by one, and what the row holds at the end.
 -- No contract cites this file. Assumes nothing.
 use mathlib.Core.Path.{_≡_, refl, sym, ap, _∙_}
-use mathlib.Core.Bool.{Bool, true, false}
+use mathlib.Core.Bool.{Bool, true, false, not}
 use mathlib.Core.List.{List, [], _∷_, _++_, map}
-use Prim.Native.Nat.{ℕ, zero, suc, _+_, _*_, _-_, _≤_, _<_}
+use Prim.Native.Nat.{ℕ, zero, suc, _+_, _*_, _-_, _^_, _≤_, _<_}
 use native.Mathlib.Nat.{sub-zero}
 use native.Mathlib.Omega.{arith}
-use lib.Dec.{ltb}
+use lib.Dec.{eqb, ltb, leb}
 use lib.ListN.{length, drop, getD}
 use borrow.Author.Tests.{ltb-false, lt-ltb, le-ltb}
 use Rattle.units.specs.declared.BytePlace.{BytePlace}
 use Rattle.units.specs.declared.Slot.{Slot}
+use Rattle.units.specs.declared.Reason.{Reason}
 use Rattle.units.specs.declared.Refusal.{Refusal}
 use Rattle.units.specs.declared.Refusal.the-variants as refusal
-use Rattle.units.specs.declared.Verdict.the-variants as verdict
+use Rattle.units.specs.declared.CardVerdict.the-variants as verdict
 use Rattle.units.specs.declared.why.Why.{Why}
 use Rattle.units.specs.Answer.{Answer, accepted, refused, refuse, pick, andThen}
-use Rattle.units.specs.Places.{insideOrEmpty}
-use Rattle.units.specs.Refusals.{refusedBy}
-use Rattle.units.specs.Meanings.{verdictMeans}
+use Rattle.units.specs.Bytes.{part}
+use Rattle.units.specs.Places.{goodSize, insideOrEmpty}
+use Rattle.units.specs.Refusals.{refusedBy, whyAt}
+use Rattle.units.specs.Meanings.{cardMeans}
 use Rattle.units.proofs.Laws.{by-pick}
+use Rattle.crc32.specs.Crc.{crc}
 use Rattle.header.specs.declared.Header.{Header}
 use Rattle.partition.specs.declared.Partition.{Partition}
 use Rattle.partition.specs.Format.{entryAt}
@@ -28,7 +31,7 @@ use Rattle.partition.proofs.Ways.{inside-filled}
 use Rattle.rows.specs.declared.Entry.{Entry}
 use Rattle.rows.specs.declared.inner.Plan.{Plan}
 use Rattle.rows.specs.Row.{entryOf, presentEntries, partitionsRead, rowOutcome, RowEnds}
-use Rattle.rows.specs.Plans.{Lies, InArray, Made, entriesBy, entryBy, slotAfter, planned, noPlan, planWithin, roomed, countBy, entriesFound}
+use Rattle.rows.specs.Plans.{Lies, InArray, Made, entriesBy, entryBy, slotAfter, planned, noPlan, nowhere, planWithin, roomed, countBy, plainly, entriesFound}
 
 pub length-map : {A B : Type 0} (f : A → B) (l : List A) → length (map f l) ≡ length l
 length-map f [] = refl
@@ -47,11 +50,11 @@ no-entries xs at n e = rw e
 -- ---- plans
 
 module _ (xs : List ℕ) where
-  pub made-none : (w : Refusal) → Made xs (noPlan w)
+  pub made-none : (w : Reason) → Made xs (noPlan w)
   unfolding insideOrEmpty entriesBy presentEntries presentFrom
   made-none w = record { lies = refl; counted = refl; idle = λ e. refl }
 
-  pub planned-none : (w : Refusal) → planned xs (noPlan w) ≡ refusedBy w
+  pub planned-none : (w : Reason) → planned xs (noPlan w) ≡ refused (whyAt w)
   unfolding planned
   planned-none w = refl
 
@@ -67,9 +70,9 @@ module _ (xs : List ℕ) where
 
   -- the array that a header names
   module _ (h : Header) (b : ℕ) {p : Plan} where
-    pub found-refused : {w : Refusal} → arrayFound xs h b ≡ refusedBy w → p ≡ noPlan w → Made xs p × (planned xs p ≡ entriesFound xs h b)
+    pub found-refused : {w : Refusal} → arrayFound xs h b ≡ refusedBy w → p ≡ noPlan (nowhere w) → Made xs p × (planned xs p ≡ entriesFound xs h b)
     unfolding entriesFound
-    found-refused {w} e f = rw (f, e) (made-none w, planned-none w)
+    found-refused {w} e f = rw (f, e) (made-none (nowhere w), planned-none (nowhere w))
 
     pub found-listed : {at : BytePlace} → arrayFound xs h b ≡ accepted at
         → Made xs p × (planned xs p ≡ accepted (presentEntries xs (at .0) (h .«num_parts»)))
@@ -80,7 +83,7 @@ module _ (xs : List ℕ) where
 -- ---- a plan for a row of m places
 
 module _ (m : ℕ) (p : Plan) where
-  pub within-over : m < p .present → noPlan refusal.NoRoom ≡ planWithin m p
+  pub within-over : m < p .present → noPlan (nowhere refusal.NoRoom) ≡ planWithin m p
   unfolding planWithin
   within-over l = rw (lt-ltb m (p .present) l)
 
@@ -95,25 +98,25 @@ module _ (m : ℕ) (p : Plan) where
   module _ (xs : List ℕ) (d : Made xs p) where
     made-within : Made xs (planWithin m p)
     unfolding planWithin
-    made-within = by-pick (Made xs) (ltb m (p .present)) _ _ (λ _. made-none xs refusal.NoRoom) (λ _. d)
+    made-within = by-pick (Made xs) (ltb m (p .present)) _ _ (λ _. made-none xs (nowhere refusal.NoRoom)) (λ _. d)
 
     -- a plan that refuses has no entries
-    none-refused : {w : Why} → verdictMeans (p .verdict) ≡ refused w → p .present ≡ 0
+    none-refused : {w : Why} → cardMeans (p .verdict) ≡ refused w → p .present ≡ 0
     unfolding entriesBy
     none-refused e = d .counted ∙ ap length (no-entries xs (p .place .0) (p .entries) (d .idle e))
 
     -- so no row is too short for it, and 15 is that of what the plan says
     planned-within : planned xs (planWithin m p) ≡ roomed m (planned xs p)
     unfolding planWithin planned roomed
-    planned-within = go (verdictMeans (p .verdict)) refl
+    planned-within = go (cardMeans (p .verdict)) refl
       where
         said : Plan → Answer (List Entry)
-        said q = andThen (verdictMeans (q .verdict)) (λ u. accepted (entriesBy xs q))
+        said q = andThen (cardMeans (q .verdict)) (λ u. accepted (entriesBy xs q))
 
         Q : Plan → Type 0
         Q q = said q ≡ andThen (said p) (λ l. pick (ltb m (length l)) (refuse 15) (accepted l))
 
-        go : (v : Answer Unit) → verdictMeans (p .verdict) ≡ v → Q (pick (ltb m (p .present)) (noPlan refusal.NoRoom) p)
+        go : (v : Answer Unit) → cardMeans (p .verdict) ≡ v → Q (pick (ltb m (p .present)) (noPlan (nowhere refusal.NoRoom)) p)
         go (accepted u) e =
             let f : ltb m (length (entriesBy xs p)) ≡ ltb m (p .present) = ap (ltb m) (sym (d .counted)) in
             by-pick Q (ltb m (p .present)) _ _ (λ t. rw (e, f, t)) (λ t. rw (e, f, t))
@@ -136,13 +139,35 @@ module _ (m : ℕ) (p : Plan) {q : Plan} (e : q ≡ planWithin m p) where
 -- ---- what is answered
 
 module _ (p : Plan) where
-  pub counts-present : verdictMeans (p .verdict) ≡ accepted tt → accepted (p .present) ≡ countBy p
+  pub counts-present : cardMeans (p .verdict) ≡ accepted tt → accepted (p .present) ≡ countBy p
   unfolding countBy
   counts-present e = rw e
 
-  pub counts-refused : {w : Why} → verdictMeans (p .verdict) ≡ refused w → refused w ≡ countBy p
+  pub counts-refused : {w : Why} → cardMeans (p .verdict) ≡ refused w → refused w ≡ countBy p
   unfolding countBy
   counts-refused e = rw e
+
+-- reading a header's array names no place
+pub read-plainly : (xs : List ℕ) (h : Header) (b m : ℕ) (row : List Entry) → plainly (rowOutcome (partitionsRead xs h b m) row .answer) ≡ rowOutcome (partitionsRead xs h b m) row .answer
+unfolding partitionsRead arrayFound rowOutcome
+read-plainly xs h b m row =
+    by-pick Q (not (goodSize b)) _ _ (λ _. refl)
+    (λ _. by-pick Q (leb (2 ^ 64) (h .«part_start» .0 * b)) _ _ (λ _. refl)
+    (λ _. by-pick Q (not (eqb (h .«part_size») 128)) _ _ (λ _. refl)
+    (λ _. by-pick Q (not (insideOrEmpty (length xs) (h .«part_start» .0 * b) (h .«num_parts» * 128))) _ _ (λ _. refl)
+    (λ _. by-pick Q (not (eqb (crc (part xs (h .«part_start» .0 * b) (h .«num_parts» * 128))) (h .«crc32_parts»))) _ _ (λ _. refl)
+    (λ _. last (ltb m (length (presentFrom xs (h .«part_start» .0 * b) 0 (h .«num_parts»)))))))))
+  where
+    read : Answer BytePlace → Answer (List Entry)
+    read a = andThen a (λ at. pick (ltb m (length (presentFrom xs (at .0) 0 (h .«num_parts»)))) (refuse 15) (accepted (presentEntries xs (at .0) (h .«num_parts»))))
+
+    Q : Answer BytePlace → Type 0
+    Q a = plainly (rowOutcome (read a) row .answer) ≡ rowOutcome (read a) row .answer
+
+    last : (t : Bool) → plainly (rowOutcome (pick t (refuse 15) (accepted (presentEntries xs (h .«part_start» .0 * b) (h .«num_parts»)))) row .answer)
+        ≡ rowOutcome (pick t (refuse 15) (accepted (presentEntries xs (h .«part_start» .0 * b) (h .«num_parts»)))) row .answer
+    last true = refl
+    last false = refl
 
 -- ---- one entry
 
@@ -214,13 +239,13 @@ module _ (xs : List ℕ) (p : Plan) where
 by-answer : (xs : List ℕ) (q : Plan) → Made xs q → (Q : Answer (List Entry) → Answer ℕ → List Entry → Type 0)
     → ((es : List Entry) → Q (accepted es) (accepted (length es)) es) → ((w : Why) → Q (refused w) (refused w) []) → Q (planned xs q) (countBy q) (entriesBy xs q)
 unfolding countBy planned entriesBy
-by-answer xs q d Q f g = go (verdictMeans (q .verdict)) refl
+by-answer xs q d Q f g = go (cardMeans (q .verdict)) refl
   where
     es : List Entry
     es = entriesBy xs q
 
-    go : (v : Answer Unit) → verdictMeans (q .verdict) ≡ v
-        → Q (andThen (verdictMeans (q .verdict)) (λ u. accepted es)) (andThen (verdictMeans (q .verdict)) (λ u. accepted (q .present))) es
+    go : (v : Answer Unit) → cardMeans (q .verdict) ≡ v
+        → Q (andThen (cardMeans (q .verdict)) (λ u. accepted es)) (andThen (cardMeans (q .verdict)) (λ u. accepted (q .present))) es
     go (accepted u) h = rw (h, d .counted) (f es)
     go (refused w) h = let n : es ≡ [] = no-entries xs (q .place .0) (q .entries) (d .idle h) in rw (h, n) (g w)
 

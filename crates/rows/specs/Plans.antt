@@ -7,13 +7,15 @@ use Prim.Native.Nat.{ℕ, _*_, _≤_}
 use lib.Dec.{ltb}
 use lib.ListN.{length}
 use Rattle.units.specs.declared.Slot.{Slot}
-use Rattle.units.specs.declared.Verdict.the-variants as verdict
+use Rattle.units.specs.declared.CardVerdict.the-variants as verdict
+use Rattle.units.specs.declared.Place.the-variants as place
+use Rattle.units.specs.declared.Reason.{Reason}
 use Rattle.units.specs.declared.Refusal.{Refusal}
 use Rattle.units.specs.declared.Refusal.the-variants as refusal
 use Rattle.units.specs.declared.why.Why.{Why}
-use Rattle.units.specs.Answer.{Answer, accepted, refused, refuse, pick, andThen}
+use Rattle.units.specs.Answer.{Answer, accepted, refused, refuse, dropped, pick, andThen}
 use Rattle.units.specs.Places.{insideOrEmpty}
-use Rattle.units.specs.Meanings.{verdictMeans}
+use Rattle.units.specs.Meanings.{cardMeans}
 use Rattle.header.specs.declared.Header.{Header}
 use Rattle.partition.specs.Array.{firstSlot, arrayFound}
 use Rattle.rows.specs.declared.Entry.{Entry}
@@ -41,21 +43,25 @@ slotAfter xs p s = record { 0 = firstSlot xs (p .place .0) (p .entries) (s .0) }
 
 -- what a plan says of its image: a refusal, or the present entries
 unfoldable pub planned : List ℕ → Plan → Answer (List Entry)
-planned xs p = andThen (verdictMeans (p .verdict)) (λ u. accepted (entriesBy xs p))
+planned xs p = andThen (cardMeans (p .verdict)) (λ u. accepted (entriesBy xs p))
 
 -- a plan that was made on an image: its array lies inside, its count is that of the present entries, and a refusal has no entries
 pub record Made (xs : List ℕ) (p : Plan) : Type 0 where
   pub lies : Lies xs p
   pub counted : p .present ≡ length (entriesBy xs p)
-  pub idle : {w : Why} → verdictMeans (p .verdict) ≡ refused w → p .entries ≡ 0
+  pub idle : {w : Why} → cardMeans (p .verdict) ≡ refused w → p .entries ≡ 0
 
 -- a refusal's plan
-abbrev pub noPlan : Refusal → Plan
+abbrev pub noPlan : Reason → Plan
 noPlan w = record { place = record { 0 = 0 }; entries = 0; present = 0; verdict = verdict.Refused w }
+
+-- a refusal that names no place
+abbrev pub nowhere : Refusal → Reason
+nowhere w = record { what = w; place = place.Nowhere }
 
 -- the plan for a row of m places: 15 where more entries are present
 unfoldable pub planWithin : ℕ → Plan → Plan
-planWithin m p = pick (ltb m (p .present)) (noPlan refusal.NoRoom) p
+planWithin m p = pick (ltb m (p .present)) (noPlan (nowhere refusal.NoRoom)) p
 
 -- the same of what a plan says
 unfoldable pub roomed : ℕ → Answer (List Entry) → Answer (List Entry)
@@ -63,7 +69,12 @@ roomed m a = andThen a (λ es. pick (ltb m (length es)) (refuse 15) (accepted es
 
 -- the count, or the refusal
 unfoldable pub countBy : Plan → Answer ℕ
-countBy p = andThen (verdictMeans (p .verdict)) (λ u. accepted (p .present))
+countBy p = andThen (cardMeans (p .verdict)) (λ u. accepted (p .present))
+
+-- what a call answers that names no place
+abbrev pub plainly : {A : Type 0} → Answer A → Answer A
+plainly (accepted x) = accepted x
+plainly (refused w) = refused (dropped w)
 
 -- the present entries of the array that a header names, before a row is lent: 1, 3, 7, 2, 6
 unfoldable pub entriesFound : List ℕ → Header → ℕ → Answer (List Entry)

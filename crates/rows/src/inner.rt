@@ -5,10 +5,12 @@ use crate::Entry;
 use header::Header;
 use partition::PartitionCount;
 use units::BytePlace;
+use units::CardVerdict;
+use units::Place;
 use units::Placed;
+use units::Reason;
 use units::Refusal;
 use units::Slot;
-use units::Verdict;
 ghost use mathlib.Core.Path.{_≡_};
 ghost use mathlib.Core.Bool.{true};
 ghost use Prim.Native.Nat.{_+_, _*_, _-_, _/_, _^_, _≤_, _<_};
@@ -21,27 +23,37 @@ ghost use Rattle.partition.specs.Array.{entryPlace};
 ghost use Rattle.partition.specs.Meanings.{countMeans};
 ghost use Rattle.rows.specs.Row.{presentEntries, rowOutcome, RowEnds};
 ghost use Rattle.rows.specs.RowBytes.{rowBytes, bytesOutcome};
-ghost use Rattle.rows.specs.Plans.{Lies, InArray, Made, entryBy, slotAfter, planned, noPlan, planWithin, roomed, countBy, entriesFound};
+ghost use Rattle.rows.specs.Plans.{Lies, InArray, Made, entryBy, slotAfter, planned, noPlan, nowhere, planWithin, roomed, countBy, plainly, entriesFound};
 
-// Where an array stands and how many entries it has, how many of them are present, and whether the reading accepts. A refusal has no entries.
+// Where an array stands and how many entries it has, how many of them are present, and whether the reading accepts. A refusal has no entries, and the place that it names.
 pub struct Plan {
     pub place: BytePlace,
     pub entries: u32,
     pub present: u32,
-    pub verdict: Verdict,
+    pub verdict: CardVerdict,
 }
 
 impl Plan {
     // The plan of a refusal.
-    pub fn refused(w: Refusal) -> Plan
+    pub fn refused(w: Reason) -> Plan
         ensures { λ r. ⌜ r ≡ noPlan w ⌝ }
     {
         Plan {
             place: BytePlace(0),
             entries: 0,
             present: 0,
-            verdict: Verdict::Refused(w),
+            verdict: CardVerdict::Refused(w),
         }
+    }
+
+    // The same of a refusal that names no place.
+    pub fn refused_plainly(w: Refusal) -> Plan
+        ensures { λ r. ⌜ r ≡ noPlan (nowhere w) ⌝ }
+    {
+        Plan::refused(Reason {
+            what: w,
+            place: Place::Nowhere,
+        })
     }
 
     // The plan that lists an array which lies inside the image.
@@ -55,7 +67,7 @@ impl Plan {
             place,
             entries,
             present,
-            verdict: Verdict::Accepted,
+            verdict: CardVerdict::Accepted,
         }
     }
 
@@ -64,7 +76,7 @@ impl Plan {
         ensures { λ r. ⌜ r ≡ planWithin room self ⌝ }
     {
         if room < self.present as usize {
-            return Plan::refused(Refusal::NoRoom);
+            return Plan::refused_plainly(Refusal::NoRoom);
         }
         self
     }
@@ -76,14 +88,17 @@ impl Plan {
         self.present as usize
     }
 
-    // The count, or the refusal.
+    // The count, or the refusal without a place, for the calls that name none.
     pub fn answer(self) -> PartitionCount
-        ensures { λ r. ⌜ countMeans r ≡ countBy self ⌝ }
+        ensures { λ r. ⌜ countMeans r ≡ plainly (countBy self) ⌝ }
     {
         let verdict = self.verdict;
         match verdict {
-            Verdict::Accepted => PartitionCount::Present(self.present),
-            Verdict::Refused(w) => PartitionCount::Refused(w),
+            CardVerdict::Accepted => PartitionCount::Present(self.present),
+            CardVerdict::Refused(w) => {
+                let what = w.what;
+                PartitionCount::Refused(what)
+            }
         }
     }
 
@@ -122,15 +137,15 @@ pub fn plan_for(img: &[u8], h: Header, b: u64) -> Plan
     ensures { λ r. ⌜ Made (now (img .entry)) r × (planned (now (img .entry)) r ≡ entriesFound (now (img .entry)) h b) ⌝ }
 {
     match partition::inner::find_array(img, h, b) {
-        Placed::Refused(w) => Plan::refused(w),
+        Placed::Refused(w) => Plan::refused_plainly(w),
         Placed::At(at) => Plan::listing(img, at, h.num_parts),
     }
 }
 
-// Carries a plan out: the planned entries into the first places of the row, or 15 if it is too short; a refusal changes no place.
-pub fn fill(img: &[u8], p: Plan, row: &mut [Entry]) -> PartitionCount
+// Carries a plan out: the planned entries into the first places of the row, or 15 if it is too short; a refusal changes no place. It gives the plan that was carried out.
+pub fn fill(img: &[u8], p: Plan, row: &mut [Entry]) -> Plan
     requires { ⌜ Made (now img) p ⌝ }
-    ensures { λ r. ⌜ RowEnds (rowOutcome (roomed (length (now (row .entry))) (planned (now (img .entry)) p)) (now (row .entry))) (countMeans r) (now (row .exit)) ⌝ }
+    ensures { λ r. ⌜ RowEnds (rowOutcome (roomed (length (now (row .entry))) (planned (now (img .entry)) p)) (now (row .entry))) (countBy r) (now (row .exit)) ⌝ }
 {
     let n = row.len();
     let q = p.within(n);
@@ -142,7 +157,7 @@ pub fn fill(img: &[u8], p: Plan, row: &mut [Entry]) -> PartitionCount
         row[i] = entry_in(img, q, at);
         i = i + 1;
     }
-    q.answer()
+    q
 }
 
 // One row in bytes, stored at a place: the slot in 8, least first, and then the record's 128.
@@ -157,10 +172,10 @@ fn put_row(out: &mut [u8], at: BytePlace, e: Entry)
     partition::inner::put_entry(out, a + 8, record);
 }
 
-// Carries a plan out: the planned entries from the first lent byte on, or 15 if there are fewer whole rows; a refusal changes no byte.
-pub fn fill_bytes(img: &[u8], p: Plan, out: &mut [u8]) -> PartitionCount
+// Carries a plan out: the planned entries from the first lent byte on, or 15 if there are fewer whole rows; a refusal changes no byte. It gives the plan that was carried out.
+pub fn fill_bytes(img: &[u8], p: Plan, out: &mut [u8]) -> Plan
     requires { ⌜ Made (now img) p ⌝ }
-    ensures { λ r. ⌜ Ends (bytesOutcome (roomed (length (now (out .entry)) / 136) (planned (now (img .entry)) p)) (now (out .entry))) (countMeans r) (now (out .exit)) ⌝ }
+    ensures { λ r. ⌜ Ends (bytesOutcome (roomed (length (now (out .entry)) / 136) (planned (now (img .entry)) p)) (now (out .entry))) (countBy r) (now (out .exit)) ⌝ }
 {
     let q = p.within(out.len() / 136);
     let count = q.places();
@@ -172,5 +187,5 @@ pub fn fill_bytes(img: &[u8], p: Plan, out: &mut [u8]) -> PartitionCount
         put_row(out, BytePlace(136 * i), e);
         i += 1;
     }
-    q.answer()
+    q
 }

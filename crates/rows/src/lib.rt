@@ -22,5 +22,6 @@ pub fn file_read_partitions(img: &[u8], h: Header, b: u64, row: &mut [Entry]) ->
     ensures { λ r. ⌜ RowEnds (rowOutcome (partitionsRead (now (img .entry)) h b (length (now (row .entry)))) (now (row .entry))) (countMeans r) (now (row .exit)) ⌝ }
 {
     let p = inner::plan_for(img, h, b);
-    inner::fill(img, p, row)
+    let q = inner::fill(img, p, row);
+    q.answer()
 }

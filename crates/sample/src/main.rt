@@ -1,9 +1,9 @@
 // Writes a sample card of 128 blocks of 512 bytes to standard output: laid, with a map, its roads and notes in slots 1 to 3.
 // The file `stdout` beside the folder `src` was made by tests/example/make_card.py, which shares no code with this library.
 // Output that cannot be written is said on standard error.
+use listing::CardCount;
 use partition::Flags;
 use partition::Partition;
-use partition::PartitionCount;
 use units::Guid;
 use units::Lba;
 use units::Slot;
@@ -75,8 +75,8 @@ fn fill(img: &mut [u8]) {
 // How many slots a card has in use, or 0 of a card that is refused.
 fn used(img: &[u8]) -> u32 {
     match card::count_used(img, 512) {
-        PartitionCount::Present(n) => n,
-        PartitionCount::Refused(_w) => 0,
+        CardCount::Used(n) => n,
+        CardCount::Refused(_w) => 0,
     }
 }
 

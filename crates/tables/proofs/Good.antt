@@ -1,15 +1,16 @@
 -- The card check, said once as a record: what it accepts is exactly a Good card, and the tables that lay, put and clear write are one.
 -- No contract cites this file. Assumes nothing.
 use mathlib.Core.Path.{_≡_, refl, sym, ap, _∙_, subst}
-use mathlib.Core.Bool.{Bool, true, false, not, _&&_, _||_}
+use mathlib.Core.Bool.{Bool, true, false, not, _||_}
 use mathlib.Core.List.{List}
-use Prim.Native.Nat.{ℕ, _*_, _-_, _^_, _≤_, _<_}
+use Prim.Native.Nat.{ℕ, _+_, _*_, _-_, _^_, _≤_, _<_}
 use native.Mathlib.Omega.{arith}
 use borrow.Author.Tests.{not-false, ltb-false}
 use lib.Dec.{ltb}
 use lib.ListN.{length}
-use Rattle.units.proofs.Chains.{else-none, else-first, else-second, when-none, none-when}
-use Rattle.units.specs.Answer.{when, plain}
+use Rattle.units.specs.declared.Place.the-variants as place
+use Rattle.units.proofs.Chains.{else-none, else-first, else-second, when-none, none-when, within-none, none-within}
+use Rattle.units.specs.Answer.{when, plain, placed, within}
 use Rattle.units.specs.Bytes.{same}
 use Rattle.units.specs.Guids.{guidAt}
 use Rattle.units.specs.Held.{Small, GuidHeld}
@@ -18,8 +19,8 @@ use Rattle.units.proofs.Laws.{same-true}
 use Rattle.crc32.specs.Crc.{crc}
 use Rattle.tables.specs.Lens.{Tables, Front, Back, tablesAt}
 use Rattle.tables.specs.Headers.{copyOf, cardOf}
-use Rattle.tables.specs.Check.{roomCheck, tableCheck, guidOf, check, badSlot, pairCheck}
-use Rattle.tables.proofs.Orders.{same-of, both, and-left, and-right}
+use Rattle.tables.specs.Check.{roomCheck, tableCheck, guidOf, differs, check, badSlot, pairCheck}
+use Rattle.tables.proofs.Orders.{same-of}
 use Rattle.tables.proofs.Room.{Room, room}
 use Rattle.tables.proofs.LensLaws.{Whole, whole-tables}
 use Rattle.tables.proofs.EntryLaws.{Entries, entries-true, entries-of}
@@ -45,29 +46,31 @@ pub good-check : {B n : ℕ} {t : Tables} → Good B n t → check B n t .number
 unfolding check pairCheck
 good-check {B} {n} {t} k =
     else-none _ _ (k .room)
-    (else-none _ _ (k .front)
-    (else-none _ _ (k .back)
-    (else-none _ _ (when-none _ (plain 17) (ap not (both (same-of (k .guids)) (same-of (sym (k .arrays))))))
-    (when-none _ (plain 16) (ap not (entries-of B n _ (k .entries)))))))
+    (else-none _ _ (within-none place.Front _ (k .front))
+    (else-none _ _ (within-none place.Back _ (k .back))
+    (else-none _ _ (when-none _ (placed 17 place.DiskGuid) (ap not (same-of (k .guids))))
+    (else-none _ _ (when-none _ (placed 17 (place.InSlot (record { 0 = differs (t .front .array) (t .back .array) + 1 }))) (ap not (same-of (sym (k .arrays)))))
+    (when-none _ (placed 16 place.Front) (ap not (entries-of B n _ (k .entries))))))))
 
 pub check-good : (B n : ℕ) (t : Tables) → check B n t .number ≡ 0 → Good B n t
 unfolding check pairCheck
 check-good B n t h =
-    let cf = tableCheck B n Front (t .front) in
-    let cb = tableCheck B n Back (t .back) in
+    let cf = within place.Front (tableCheck B n Front (t .front)) in
+    let cb = within place.Back (tableCheck B n Back (t .back)) in
     let h1 = else-second (roomCheck B n) _ h in
     let h2 = else-second cf _ h1 in
     let h3 = else-second cb _ h2 in
-    let sg = same (guidOf (t .front)) (guidOf (t .back)) in
-    let sa = same (t .front .array) (t .back .array) in
-    let h17 = not-false _ (none-when _ (plain 17) tt (else-first (when (not (sg && sa)) (plain 17)) _ h3)) in
+    let g17 = when (not (same (guidOf (t .front)) (guidOf (t .back)))) (placed 17 place.DiskGuid) in
+    let s17 = placed 17 (place.InSlot (record { 0 = differs (t .front .array) (t .back .array) + 1 })) in
+    let a17 = when (not (same (t .front .array) (t .back .array))) s17 in
+    let h4 = else-second g17 _ h3 in
     record {
       room = else-first (roomCheck B n) _ h;
-      front = else-first cf _ h1;
-      back = else-first cb _ h2;
-      guids = same-true _ _ (and-left sg sa h17);
-      arrays = sym (same-true _ _ (and-right sg sa h17));
-      entries = entries-true B n _ (not-false _ (none-when _ (plain 16) tt (else-second (when (not (sg && sa)) (plain 17)) _ h3)));
+      front = none-within place.Front _ (else-first cf _ h1);
+      back = none-within place.Back _ (else-first cb _ h2);
+      guids = same-true _ _ (not-false _ (none-when _ (placed 17 place.DiskGuid) tt (else-first g17 _ h3)));
+      arrays = sym (same-true _ _ (not-false _ (none-when _ s17 tt (else-first a17 _ h4))));
+      entries = entries-true B n _ (not-false _ (none-when _ (placed 16 place.Front) tt (else-second a17 _ h4)));
     }
 
 pub accepted-array : (B n : ℕ) (xs : List ℕ) → length xs ≡ n → check B n (tablesAt B n xs) .number ≡ 0 → length (tablesAt B n xs .front .array) ≡ 16384

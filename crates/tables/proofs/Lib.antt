@@ -9,3 +9,5 @@ pub mod Good
 pub mod ReadCheck
 pub mod RoomWays
 pub mod Copies
+pub mod Differ
+pub mod Dropped

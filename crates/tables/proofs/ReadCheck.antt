@@ -9,8 +9,9 @@ use borrow.Author.Tests.{not-false}
 use lib.Dec.{eqb}
 use lib.ListN.{length, take, drop}
 use lib.Seq.{take-take}
+use Rattle.units.specs.declared.Place.the-variants as place
 use Rattle.units.specs.declared.why.Why.{Why}
-use Rattle.units.specs.Answer.{Answer, accepted, refused, refuse, orElse, judged, plain}
+use Rattle.units.specs.Answer.{Answer, accepted, refused, orElse, judged, plain, placed, within}
 use Rattle.units.specs.Bytes.{part, num, same}
 use Rattle.units.specs.Places.{goodSize, inside}
 use Rattle.units.proofs.Lists.{part-part}
@@ -90,17 +91,17 @@ copy-wrong : (B n : ℕ) (s : Side) (x arr : List ℕ) → same (part x 0 8) sig
 unfolding copyCheck orElse
 copy-wrong B n s x arr a b c = rw (a, b, c)
 
-front-wrong : (B n : ℕ) (t : Tables) (w : Why) (k : ℕ) → roomCheck B n .number ≡ 0 → tableCheck B n Front (t .front) ≡ w → w .number ≡ suc k → check B n t ≡ w
-unfolding check orElse
-front-wrong B n t w k r c o = rw (r, c, o)
+front-wrong : (B n : ℕ) (t : Tables) (k : ℕ) → roomCheck B n .number ≡ 0 → tableCheck B n Front (t .front) ≡ plain (suc k) → check B n t ≡ placed (suc k) place.Front
+unfolding check orElse within
+front-wrong B n t k r c = rw (r, c)
 
-judged-16 : {A : Type 0} (v : A) (w : Why) → w ≡ plain 16 → judged w v ≡ refuse 16
+judged-16 : {A : Type 0} (v : A) (w : Why) → w ≡ placed 16 place.Front → judged w v ≡ refused (placed 16 place.Front)
 unfolding judged
 judged-16 v w e = rw e
 
--- P7: a primary header that reads well, but whose last usable block is not lay's, is refused by 16
+-- P7: a primary header that reads well, but whose last usable block is not lay's, is refused by 16 of the front table
 pub far-last-refused : (B : ℕ) (xs : List ℕ) (h : Header) → roomCheck B (length xs) .number ≡ 0 → primaryRead xs B ≡ accepted h
-    → (h .«last_usable» .0 ≡ lastUsable B (length xs) → ⊥) → checkAnswer B xs ≡ refuse 16
+    → (h .«last_usable» .0 ≡ lastUsable B (length xs) → ⊥) → checkAnswer B xs ≡ refused (placed 16 place.Front)
 unfolding primaryRead tablesAt
 far-last-refused B xs h r p d =
     let q : Room B (length xs) = room-ok B (length xs) r in
@@ -113,7 +114,7 @@ far-last-refused B xs h r p d =
     let c : copyCheck B (length xs) Front (headOf (tablesAt B (length xs) xs .front)) (part xs (B + B) 16384) ≡ plain 16 =
     ap (λ (x : List ℕ). copyCheck B (length xs) Front x (part xs (B + B) 16384)) (head-part xs B B (omega arith))
     ∙ copy-wrong B (length xs) Front (part xs B 92) (part xs (B + B) 16384) m s f in
-    judged-16 tt (check B (length xs) (tablesAt B (length xs) xs)) (front-wrong B (length xs) (tablesAt B (length xs) xs) (plain 16) 15 r c refl)
+    judged-16 tt (check B (length xs) (tablesAt B (length xs) xs)) (front-wrong B (length xs) (tablesAt B (length xs) xs) 15 r c)
   where
     first-read : goodSize B ≡ true → primaryRead xs B ≡ headerRead xs B
     first-read g = rw g

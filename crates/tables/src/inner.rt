@@ -7,7 +7,6 @@ use units::Guid;
 use units::Lba;
 use units::Slot;
 use units::why;
-use units::why::Why;
 ghost use mathlib.Core.Path.{_≡_};
 ghost use mathlib.Core.Bool.{false};
 ghost use Prim.Native.Nat.{_+_, _*_, _-_, _≤_, _<_};
@@ -28,9 +27,9 @@ pub fn block_count(len: usize, b: u64) -> u64
     len as u64 / b
 }
 
-// Whether a card of len bytes has room for both tables: 1 bad block size, 8 below three blocks, 10 no room between the tables.
-pub fn room_check(len: usize, b: u64) -> Why
-    ensures { λ r. ⌜ r ≡ roomCheck b len ⌝ }
+// The number that refuses a card of len bytes without room for both tables, or 0: 1 bad block size, 8 below three blocks, 10 no room between the tables.
+pub fn room_check(len: usize, b: u64) -> u32
+    ensures { λ r. ⌜ r ≡ roomCheck b len .number ⌝ }
 {
     if !units::good_block_size(b) {
         return why::BAD_BLOCK_SIZE;
@@ -41,7 +40,7 @@ pub fn room_check(len: usize, b: u64) -> Why
     if block_count(len, b) - 1 < 2 * (16384 / b) + 3 {
         return why::BACKUP_LBA_TO_EARLY;
     }
-    why::FINE
+    0
 }
 
 // Whether a slot is none of the card's.

@@ -10,11 +10,14 @@ use lib.ListN.{length, getD}
 use borrow.Author.Tests.{lt-ltb, ltb-true}
 use Rattle.units.specs.declared.Refusal.{Refusal}
 use Rattle.units.specs.declared.Refusal.the-variants.{EmptyList}
-use Rattle.units.specs.declared.Verdict.the-variants as verdict
+use Rattle.units.specs.declared.Reason.{Reason}
+use Rattle.units.specs.declared.Place.{Place}
+use Rattle.units.specs.declared.Place.the-variants.{Nowhere}
+use Rattle.units.specs.declared.CardVerdict.the-variants as verdict
 use Rattle.units.specs.declared.why.Why.{Why}
-use Rattle.units.specs.Answer.{Answer, accepted, refused, fine, when, ifZero, orElse, judged, settle, gives, ends, pick}
-use Rattle.units.specs.Refusals.{why, names, refusalOf, laterRefusal, back}
-use Rattle.units.specs.Meanings.{verdictMeans, verdictOf}
+use Rattle.units.specs.Answer.{Answer, accepted, refused, plain, fine, placed, within, dropped, when, ifZero, orElse, judged, settle, gives, ends, pick}
+use Rattle.units.specs.Refusals.{why, whyAt, number, names, refusalOf, reasonOf, laterRefusal, reason-back}
+use Rattle.units.specs.Meanings.{cardMeans, verdictOf}
 
 -- ---- the ways out of the code
 
@@ -75,14 +78,88 @@ pub none-when : (t : Bool) (w : Why) → T (ltb 0 (w .number)) → when t w .num
 none-when true w h e = absurd (omega (arith, ltb→lt 0 (w .number) h))
 none-when false w h e = refl
 
+-- ---- a refusal that names nothing, by its number alone, and the place that it is found at
+
+pub record Bare (w : Why) : Type 0 where
+  pub bare : w ≡ plain (w .number)
+
+pub bare-when : (t : Bool) (n : ℕ) → Bare (when t (plain n))
+bare-when true n = record { bare = refl }
+bare-when false n = record { bare = refl }
+
+pub bare-else : (a b : Why) → Bare a → Bare b → Bare (orElse a b)
+unfolding orElse
+bare-else a b p q = by (a .number)
+  where
+    by : (k : ℕ) → Bare (ifZero k b a)
+    by zero = q
+    by (suc k) = p
+
+-- the code has the number k of such a part, and says the place with it
+pub found-at : (p : Place) {k : ℕ} (a m : Why) → Bare a → k ≡ a .number → (k ≡ 0 → ⊥) → placed k p ≡ orElse (within p a) m
+unfolding orElse within
+found-at p {k} a m b e d = rw (b .bare, ← e) (by k d)
+  where
+    by : (n : ℕ) → (n ≡ 0 → ⊥) → placed n p ≡ ifZero (ifZero n fine (placed n p) .number) m (ifZero n fine (placed n p))
+    by zero z = absurd (z refl)
+    by (suc n) z = refl
+
+pub past-at : (p : Place) {r m : Why} (a : Why) → a .number ≡ 0 → r ≡ m → r ≡ orElse (within p a) m
+unfolding orElse within
+past-at p a z q = rw z q
+
+pub found-bare : {k : ℕ} (a m : Why) → Bare a → k ≡ a .number → (k ≡ 0 → ⊥) → plain k ≡ orElse a m
+unfolding orElse
+found-bare {k} a m b e d = rw (b .bare, ← e) (some k m (plain k) d)
+
+pub within-none : (p : Place) (w : Why) → w .number ≡ 0 → within p w .number ≡ 0
+unfolding within
+within-none p w z = rw z
+
+pub none-within : (p : Place) (w : Why) → within p w .number ≡ 0 → w .number ≡ 0
+unfolding within
+none-within p w h = by (w .number) refl h
+  where
+    by : (k : ℕ) → w .number ≡ k → ifZero k fine (record { number = w .number; slot = w .slot; place = p }) .number ≡ 0 → w .number ≡ 0
+    by zero e q = e
+    by (suc k) e q = q
+
+-- ---- dropping the place
+
+pub dropped-else : (a b : Why) → dropped (orElse a b) ≡ orElse (dropped a) (dropped b)
+unfolding orElse
+dropped-else a b = by (a .number)
+  where
+    by : (k : ℕ) → dropped (ifZero k b a) ≡ ifZero k (dropped b) (dropped a)
+    by zero = refl
+    by (suc k) = refl
+
+pub dropped-when : (t : Bool) (w : Why) → dropped (when t w) ≡ when t (dropped w)
+dropped-when true w = refl
+dropped-when false w = refl
+
+pub dropped-bare : (w : Why) → Bare w → dropped w ≡ w
+dropped-bare w b = ap dropped (b .bare) ∙ sym (b .bare)
+
+pub dropped-within : (p : Place) (w : Why) → Bare w → dropped (within p w) ≡ w
+unfolding within
+dropped-within p w b = rw (b .bare) (by (w .number))
+  where
+    by : (k : ℕ) → dropped (ifZero k fine (placed k p)) ≡ plain k
+    by zero = refl
+    by (suc k) = refl
+
 -- ---- the name of a chain's refusal
 
 -- a refusal as a value that has a name, or none
 pub record Named (w : Why) : Type 0 where
-  pub name : (w .number ≡ 0 → ⊥) → why (refusalOf w) ≡ w
+  pub name : (w .number ≡ 0 → ⊥) → whyAt (reasonOf w) ≡ w
+
+pub named-at : (r : Refusal) (p : Place) → Named (record { number = number r; slot = why r .slot; place = p })
+named-at r p = record { name = λ d. ap whyAt (reason-back (record { what = r; place = p })) }
 
 pub named-is : (r : Refusal) → Named (why r)
-named-is r = record { name = λ d. ap why (back r) }
+named-is r = record { name = λ d. ap whyAt (reason-back (record { what = r; place = Nowhere })) }
 
 pub named-when : (t : Bool) (w : Why) → Named w → Named (when t w)
 named-when true w n = n
@@ -96,12 +173,20 @@ named-else a b p q = by (a .number)
     by zero = q
     by (suc k) = p
 
--- the verdict of such a refusal means it
-pub verdict-judged : (w : Why) → Named w → verdictMeans (verdictOf w) ≡ judged w tt
-unfolding verdictOf judged
-verdict-judged w n = by (w .number) (refusalOf w) (n .name)
+pub named-within : (p : Place) (w : Why) → Named w → Named (within p w)
+unfolding within reasonOf refusalOf
+named-within p w n = by (w .number) refl
   where
-    by : (k : ℕ) (r : Refusal) → ((k ≡ 0 → ⊥) → why r ≡ w) → verdictMeans (ifZero k verdict.Accepted (verdict.Refused r)) ≡ ifZero k (accepted tt) (refused w)
+    by : (k : ℕ) → w .number ≡ k → Named (ifZero k fine (record { number = w .number; slot = w .slot; place = p }))
+    by zero e = record { name = λ d. absurd (d refl) }
+    by (suc k) e = record { name = λ d. ap (λ (v : Why). record { number = v .number; slot = v .slot; place = p }) (n .name d) }
+
+-- the verdict of such a refusal means it
+pub verdict-judged : (w : Why) → Named w → cardMeans (verdictOf w) ≡ judged w tt
+unfolding verdictOf judged
+verdict-judged w n = by (w .number) (reasonOf w) (n .name)
+  where
+    by : (k : ℕ) (r : Reason) → ((k ≡ 0 → ⊥) → whyAt r ≡ w) → cardMeans (ifZero k verdict.Accepted (verdict.Refused r)) ≡ ifZero k (accepted tt) (refused w)
     by zero r e = refl
     by (suc k) r e = ap refused (e (λ z. omega arith))
 
@@ -150,9 +235,9 @@ pub verdict-fine : (w : Why) → w .number ≡ 0 → verdict.Accepted ≡ verdic
 unfolding verdictOf
 verdict-fine w e = rw e
 
-pub verdict-refused : (w : Why) {r : Refusal} → (w .number ≡ 0 → ⊥) → r ≡ refusalOf w → verdict.Refused r ≡ verdictOf w
+pub verdict-refused : (w : Why) {r : Reason} → (w .number ≡ 0 → ⊥) → r ≡ reasonOf w → verdict.Refused r ≡ verdictOf w
 unfolding verdictOf
-verdict-refused w d e = ap verdict.Refused e ∙ some (w .number) verdict.Accepted (verdict.Refused (refusalOf w)) d
+verdict-refused w d e = ap verdict.Refused e ∙ some (w .number) verdict.Accepted (verdict.Refused (reasonOf w)) d
 
 -- ---- the ends of a call
 

@@ -4,18 +4,24 @@ use mathlib.Core.Path.{_≡_, sym, ap, _∙_}
 use mathlib.Core.Bool.{Bool, true, false}
 use mathlib.Core.List.{List}
 use Prim.Native.Nat.{ℕ, zero, suc}
+use Rattle.units.specs.declared.Place.{Place}
+use Rattle.units.specs.declared.Place.the-variants.{Nowhere}
 use Rattle.units.specs.declared.why.Why.{Why}
 
 -- a refusal by a number that names nothing, and 0, which refuses nothing
 abbrev pub plain : ℕ → Why
-plain n = record { number = n; slot = record { 0 = 0 }; place = 0 }
+plain n = record { number = n; slot = record { 0 = 0 }; place = Nowhere }
 
 abbrev pub fine : Why
 fine = plain 0
 
 -- with the slot that it names
 abbrev pub ofSlot : ℕ → ℕ → Why
-ofSlot n s = record { number = n; slot = record { 0 = s }; place = 0 }
+ofSlot n s = record { number = n; slot = record { 0 = s }; place = Nowhere }
+
+-- with the place that it names
+abbrev pub placed : ℕ → Place → Why
+placed n p = record { number = n; slot = record { 0 = 0 }; place = p }
 
 -- accepted with a value, which is document 01's number 0, or refused with no value
 pub data Answer (A : Type 0) : Type 0 where
@@ -60,6 +66,14 @@ when false w = fine
 abbrev pub ifZero {ℓ} : {X : Type ℓ} → ℕ → X → X → X
 ifZero zero a b = a
 ifZero (suc k) a b = b
+
+-- the same refusal, found at a place; where nothing refuses, none is named
+unfoldable pub within : Place → Why → Why
+within p w = ifZero (w .number) fine (record { number = w .number; slot = w .slot; place = p })
+
+-- what a reader sees who drops the place
+abbrev pub dropped : Why → Why
+dropped w = record { number = w .number; slot = w .slot; place = Nowhere }
 
 -- the first check's refusal, else the second's
 unfoldable pub orElse : Why → Why → Why

@@ -8,59 +8,68 @@ use lib.ListN.{getD}
 use Rattle.units.specs.declared.Slot.{Slot}
 use Rattle.units.specs.declared.Refusal.{Refusal}
 use Rattle.units.specs.declared.Refusal.the-variants.{BadBlockSize, Short, Overflow, InvalidGptSignature, InvalidCRC32Checksum, PartsCrc, BadEntrySize, ToSmallForBackup, MissingBackupLba, BackupLbaToEarly, WritingToWrongLba, InvalidMBRLength, InvalidMBRSignature, InvalidPartitionLength, NoRoom, WrongLayout, Disagree, BadSlot, NilType, BadRange, OutsideUsable, Overlap, EmptySlot, PastPartition, TwinGuid, WrongStage, NoGoodCopy, ReservedFlag, BadHeaderSize, DirtyBlock, WrongPlace, WindowLength, TableFull, BadMark, UnknownVersion, BadDate, TwoDates, EmptyList}
+use Rattle.units.specs.declared.Reason.{Reason}
 use Rattle.units.specs.declared.why.Why.{Why}
-use Rattle.units.specs.Answer.{Answer, refused, plain, ofSlot, pick}
+use Rattle.units.specs.Answer.{Answer, refused, ofSlot, pick}
 
--- a refusal as a value: its number, and the slot that 22 and 25 carry
-abbrev pub why : Refusal → Why
-why BadBlockSize = plain 1
-why Short = plain 2
-why Overflow = plain 3
-why InvalidGptSignature = plain 4
-why InvalidCRC32Checksum = plain 5
-why PartsCrc = plain 6
-why BadEntrySize = plain 7
-why ToSmallForBackup = plain 8
-why MissingBackupLba = plain 9
-why BackupLbaToEarly = plain 10
-why WritingToWrongLba = plain 11
-why InvalidMBRLength = plain 12
-why InvalidMBRSignature = plain 13
-why InvalidPartitionLength = plain 14
-why NoRoom = plain 15
-why WrongLayout = plain 16
-why Disagree = plain 17
-why BadSlot = plain 18
-why NilType = plain 19
-why BadRange = plain 20
-why OutsideUsable = plain 21
-why (Overlap s) = ofSlot 22 (s .0)
-why EmptySlot = plain 23
-why PastPartition = plain 24
-why (TwinGuid s) = ofSlot 25 (s .0)
-why WrongStage = plain 26
-why NoGoodCopy = plain 27
-why ReservedFlag = plain 28
-why BadHeaderSize = plain 29
-why DirtyBlock = plain 30
-why WrongPlace = plain 31
-why WindowLength = plain 32
-why TableFull = plain 33
-why BadMark = plain 34
-why UnknownVersion = plain 35
-why BadDate = plain 36
-why TwoDates = plain 37
-why EmptyList = plain 38
+-- the number of each refusal, and the slot that 22 and 25 carry, else 0
+abbrev numbered : Refusal → ℕ × ℕ
+numbered BadBlockSize = (1, 0)
+numbered Short = (2, 0)
+numbered Overflow = (3, 0)
+numbered InvalidGptSignature = (4, 0)
+numbered InvalidCRC32Checksum = (5, 0)
+numbered PartsCrc = (6, 0)
+numbered BadEntrySize = (7, 0)
+numbered ToSmallForBackup = (8, 0)
+numbered MissingBackupLba = (9, 0)
+numbered BackupLbaToEarly = (10, 0)
+numbered WritingToWrongLba = (11, 0)
+numbered InvalidMBRLength = (12, 0)
+numbered InvalidMBRSignature = (13, 0)
+numbered InvalidPartitionLength = (14, 0)
+numbered NoRoom = (15, 0)
+numbered WrongLayout = (16, 0)
+numbered Disagree = (17, 0)
+numbered BadSlot = (18, 0)
+numbered NilType = (19, 0)
+numbered BadRange = (20, 0)
+numbered OutsideUsable = (21, 0)
+numbered (Overlap s) = (22, s .0)
+numbered EmptySlot = (23, 0)
+numbered PastPartition = (24, 0)
+numbered (TwinGuid s) = (25, s .0)
+numbered WrongStage = (26, 0)
+numbered NoGoodCopy = (27, 0)
+numbered ReservedFlag = (28, 0)
+numbered BadHeaderSize = (29, 0)
+numbered DirtyBlock = (30, 0)
+numbered WrongPlace = (31, 0)
+numbered WindowLength = (32, 0)
+numbered TableFull = (33, 0)
+numbered BadMark = (34, 0)
+numbered UnknownVersion = (35, 0)
+numbered BadDate = (36, 0)
+numbered TwoDates = (37, 0)
+numbered EmptyList = (38, 0)
 
 abbrev pub number : Refusal → ℕ
-number w = why w .number
+number w = numbered w .0
+
+abbrev pub slotIn : Refusal → ℕ
+slotIn w = numbered w .1
+
+-- a refusal as a value: its number, and the slot that it carries
+abbrev pub why : Refusal → Why
+why w = ofSlot (number w) (slotIn w)
+
+-- the same with the place beside it
+abbrev pub whyAt : Reason → Why
+whyAt r = record { number = number (r .what); slot = record { 0 = slotIn (r .what) }; place = r .place }
 
 -- the number of a refusal that document 02 brings, 0 for one of document 01's
 abbrev pub laterNumber : Refusal → ℕ
 laterNumber w = pick (ltb 24 (number w)) (number w) 0
-
-abbrev pub slotIn : Refusal → ℕ
-slotIn w = why w .slot .0
 
 -- the answer that a refusal is
 abbrev pub refusedBy : {A : Type 0} → Refusal → Answer A
@@ -73,6 +82,10 @@ names s =
 
 unfoldable pub refusalOf : Why → Refusal
 refusalOf w = getD (names (w .slot)) (w .number) EmptyList
+
+-- the refusal by its name, with its place
+unfoldable pub reasonOf : Why → Reason
+reasonOf w = record { what = refusalOf w; place = w .place }
 
 -- the names that document 02 brings; the other numbers have the last name
 abbrev pub laterRefusal : Why → Refusal
@@ -123,3 +136,8 @@ back EmptyList = refl
 -- two refusals with one number and one slot are the same refusal
 pub one-why : (v w : Refusal) → why v ≡ why w → v ≡ w
 one-why v w e = sym (back v) ∙ ap refusalOf e ∙ back w
+
+-- the same of a reason
+pub reason-back : (r : Reason) → reasonOf (whyAt r) ≡ r
+unfolding reasonOf refusalOf
+reason-back r = ap (λ (w : Refusal). record { what = w; place = r .place }) (back (r .what))

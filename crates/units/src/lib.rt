@@ -127,6 +127,27 @@ pub enum Verdict {
     Refused(Refusal),
 }
 
+// Where the card check found what it refuses by (document 02, 5/13): in the front table, in the back one, in their disk GUIDs, or in the first slot that differs.
+pub enum Place {
+    Nowhere,
+    Front,
+    Back,
+    DiskGuid,
+    InSlot(Slot),
+}
+
+// Why a card call refuses: the refusal by its name, and the place that it names.
+pub struct Reason {
+    pub what: Refusal,
+    pub place: Place,
+}
+
+// Whether a card call accepts.
+pub enum CardVerdict {
+    Accepted,
+    Refused(Reason),
+}
+
 // Whether a block size is 512 or 4,096. Every call that is given another answers 1, first of all.
 pub fn good_block_size(b: u64) -> bool
     ensures { λ r. ⌜ r ≡ goodSize b ⌝ }
@@ -249,6 +270,12 @@ pub enum NumberRead {
 pub enum Stored {
     Bytes(usize),
     Refused(Refusal),
+}
+
+// The same of a card call.
+pub enum CardStored {
+    Bytes(usize),
+    Refused(Reason),
 }
 
 // The number in the bytes at a place, least byte first: 2.

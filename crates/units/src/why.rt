@@ -1,114 +1,99 @@
 // A refusal as a value: what the card's tests hand on from the first of them to the answer. Public answers have it by its name.
+use crate::CardVerdict;
+use crate::Place;
+use crate::Reason;
 use crate::Refusal;
 use crate::Slot;
-use crate::Verdict;
 ghost use mathlib.Core.Path.{_≡_};
-ghost use Rattle.units.specs.Refusals.{refusalOf, laterRefusal};
+ghost use Rattle.units.specs.Refusals.{refusalOf, laterRefusal, reasonOf};
 ghost use Rattle.units.specs.Meanings.{verdictOf};
 
-// The number of documents 01 and 02, 0 where nothing refuses; the slot that it names, else slot 0; the place that it names, else 0.
+// The number of documents 01 and 02, 0 where nothing refuses; the slot that 22 or 25 names, else slot 0; the place that the card check names, else none.
 pub struct Why {
     pub number: u32,
     pub slot: Slot,
-    pub place: u32,
+    pub place: Place,
 }
 
 // Nothing refuses.
 pub const FINE: Why = Why {
     number: 0,
     slot: Slot(0),
-    place: 0,
+    place: Place::Nowhere,
+};
+
+// The numbers that the tests of the room and of one table give: which table it was, the check says.
+pub const BAD_BLOCK_SIZE: u32 = 1;
+
+pub const INVALID_GPT_SIGNATURE: u32 = 4;
+
+pub const INVALID_CRC32_CHECKSUM: u32 = 5;
+
+pub const PARTS_CRC: u32 = 6;
+
+pub const TO_SMALL_FOR_BACKUP: u32 = 8;
+
+pub const BACKUP_LBA_TO_EARLY: u32 = 10;
+
+pub const WRONG_LAYOUT: u32 = 16;
+
+pub const DISAGREE: u32 = 17;
+
+// The two tables have different disk GUIDs.
+pub const TWO_DISK_GUIDS: Why = Why {
+    number: DISAGREE,
+    slot: Slot(0),
+    place: Place::DiskGuid,
+};
+
+// The entries are wrong: they count as the front table's.
+pub const WRONG_ENTRIES: Why = Why {
+    number: WRONG_LAYOUT,
+    slot: Slot(0),
+    place: Place::Front,
 };
 
 // The refusals that name nothing.
-pub const BAD_BLOCK_SIZE: Why = Why {
-    number: 1,
-    slot: Slot(0),
-    place: 0,
-};
-
-pub const INVALID_GPT_SIGNATURE: Why = Why {
-    number: 4,
-    slot: Slot(0),
-    place: 0,
-};
-
-pub const INVALID_CRC32_CHECKSUM: Why = Why {
-    number: 5,
-    slot: Slot(0),
-    place: 0,
-};
-
-pub const PARTS_CRC: Why = Why {
-    number: 6,
-    slot: Slot(0),
-    place: 0,
-};
-
-pub const TO_SMALL_FOR_BACKUP: Why = Why {
-    number: 8,
-    slot: Slot(0),
-    place: 0,
-};
-
-pub const BACKUP_LBA_TO_EARLY: Why = Why {
-    number: 10,
-    slot: Slot(0),
-    place: 0,
-};
-
-pub const WRONG_LAYOUT: Why = Why {
-    number: 16,
-    slot: Slot(0),
-    place: 0,
-};
-
-pub const DISAGREE: Why = Why {
-    number: 17,
-    slot: Slot(0),
-    place: 0,
-};
-
 pub const BAD_SLOT: Why = Why {
     number: 18,
     slot: Slot(0),
-    place: 0,
+    place: Place::Nowhere,
 };
 
 pub const NIL_TYPE: Why = Why {
     number: 19,
     slot: Slot(0),
-    place: 0,
+    place: Place::Nowhere,
 };
 
 pub const BAD_RANGE: Why = Why {
     number: 20,
     slot: Slot(0),
-    place: 0,
+    place: Place::Nowhere,
 };
 
 pub const OUTSIDE_USABLE: Why = Why {
     number: 21,
     slot: Slot(0),
-    place: 0,
+    place: Place::Nowhere,
 };
 
 pub const EMPTY_SLOT: Why = Why {
     number: 23,
     slot: Slot(0),
-    place: 0,
+    place: Place::Nowhere,
 };
 
 pub const PAST_PARTITION: Why = Why {
     number: 24,
     slot: Slot(0),
-    place: 0,
+    place: Place::Nowhere,
 };
 
 pub const RESERVED_FLAG: Why = Why {
     number: 28,
     slot: Slot(0),
-    place: 0,
+    place: Place::Nowhere,
 };
 
 impl Why {
@@ -171,14 +156,25 @@ impl Why {
         }
     }
 
+    // The refusal by its name, with its place.
+    pub fn reason(self) -> Reason
+        ensures { λ r. ⌜ r ≡ reasonOf self ⌝ }
+    {
+        let place = self.place;
+        Reason {
+            what: self.refusal(),
+            place,
+        }
+    }
+
     // The verdict by its name.
-    pub fn verdict(self) -> Verdict
+    pub fn verdict(self) -> CardVerdict
         ensures { λ r. ⌜ r ≡ verdictOf self ⌝ }
     {
         let n = self.number;
         if n == 0 {
-            return Verdict::Accepted;
+            return CardVerdict::Accepted;
         }
-        Verdict::Refused(self.refusal())
+        CardVerdict::Refused(self.reason())
     }
 }

@@ -1,6 +1,6 @@
 //! The card calls: each is one call of the library, with its answer told as a `Result`.
 use crate::refusal::accepted;
-use crate::{ffi, Entry, Guid, Record, Refusal};
+use crate::{ffi, Entry, Guid, Record, Refusal, Refused};
 use std::{fmt, iter::FusedIterator, mem::size_of_val, vec};
 
 /// How many slots a card has.
@@ -50,17 +50,17 @@ impl<'image> Card<'image> {
     /// Lays an empty card: the protective MBR, and both tables with 128 unused slots. No other byte changes.
     ///
     /// Refused by 8, 10.
-    pub fn lay(image: &'image mut [u8], block_size: BlockSize, guid: Guid) -> Result<Card<'image>, Refusal> {
+    pub fn lay(image: &'image mut [u8], block_size: BlockSize, guid: Guid) -> Result<Card<'image>, Refused> {
         // SAFETY: the pointer and the length are those of one slice that only this call has; a slice's pointer is not null, also where it is empty.
         let answer = unsafe { ffi::card_lay(image.as_mut_ptr(), image.len(), block_size.bytes(), guid.to_c()) };
-        accepted(answer.number, answer.slot)?;
+        accepted(answer.number, answer.slot, answer.place, answer.differs)?;
         Ok(Card { image, block_size })
     }
 
     /// Takes an image that is a whole card already, which [`check`] decides.
     ///
     /// Refused by 8, 10; 4, 5, 16, 6 of the front table; 4, 5, 16, 6 of the back table; 17; 16.
-    pub fn open(image: &'image mut [u8], block_size: BlockSize) -> Result<Card<'image>, Refusal> {
+    pub fn open(image: &'image mut [u8], block_size: BlockSize) -> Result<Card<'image>, Refused> {
         check(image, block_size)?;
         Ok(Card { image, block_size })
     }
@@ -68,46 +68,46 @@ impl<'image> Card<'image> {
     /// Puts a record into a slot of both tables, in place of what the slot held. No byte of a partition changes.
     ///
     /// Refused as [`open`](Card::open) is, then by 18, 19, 20, 21, 22, 25, 28. A record that was read with reserved flags is refused by 28 until they are taken out.
-    pub fn put(&mut self, slot: u32, record: &Record) -> Result<(), Refusal> {
+    pub fn put(&mut self, slot: u32, record: &Record) -> Result<(), Refused> {
         let (image, b) = (&mut *self.image, self.block_size.bytes());
         // SAFETY: the pointer and the length are those of one slice that only this call has; a slice's pointer is not null, also where it is empty.
         let answer = unsafe { ffi::card_put(image.as_mut_ptr(), image.len(), b, slot, record.to_c()) };
-        accepted(answer.number, answer.slot)
+        accepted(answer.number, answer.slot, answer.place, answer.differs)
     }
 
     /// Clears a slot in both tables. An unused one is accepted. The partition's bytes stay on the card: clearing does not wipe.
     ///
     /// Refused as [`open`](Card::open) is, then by 18.
-    pub fn clear(&mut self, slot: u32) -> Result<(), Refusal> {
+    pub fn clear(&mut self, slot: u32) -> Result<(), Refused> {
         let (image, b) = (&mut *self.image, self.block_size.bytes());
         // SAFETY: the pointer and the length are those of one slice that only this call has; a slice's pointer is not null, also where it is empty.
         let answer = unsafe { ffi::card_clear(image.as_mut_ptr(), image.len(), b, slot) };
-        accepted(answer.number, answer.slot)
+        accepted(answer.number, answer.slot, answer.place, answer.differs)
     }
 
     /// Writes bytes into a slot's partition, from a place on that counts from the partition's first byte, and says how many were written: all of them.
     ///
     /// Refused as [`open`](Card::open) is, then by 18, 23, 24.
-    pub fn write_payload(&mut self, slot: u32, place: usize, bytes: &[u8]) -> Result<usize, Refusal> {
+    pub fn write_payload(&mut self, slot: u32, place: usize, bytes: &[u8]) -> Result<usize, Refused> {
         let (image, b) = (&mut *self.image, self.block_size.bytes());
         // SAFETY: each pointer and length are those of one slice, not null also where it is empty; `image` is lent to this call alone, so `bytes` is not inside it.
         let answer = unsafe { ffi::card_write_payload(image.as_mut_ptr(), image.len(), b, slot, place, bytes.as_ptr(), bytes.len()) };
-        accepted(answer.number, 0)?;
+        accepted(answer.number, 0, answer.place, answer.differs)?;
         Ok(answer.bytes as usize)
     }
 
     /// What a slot holds, or `None` where it is unused: see [`get`].
-    pub fn get(&self, slot: u32) -> Result<Option<Record>, Refusal> {
+    pub fn get(&self, slot: u32) -> Result<Option<Record>, Refused> {
         get(self.image, self.block_size, slot)
     }
 
     /// The used slots, ascending, each with its record: see [`list`].
-    pub fn list(&self) -> Result<Listing, Refusal> {
+    pub fn list(&self) -> Result<Listing, Refused> {
         list(self.image, self.block_size)
     }
 
     /// Runs the card check again: see [`check`].
-    pub fn check(&self) -> Result<(), Refusal> {
+    pub fn check(&self) -> Result<(), Refused> {
         check(self.image, self.block_size)
     }
 
@@ -132,31 +132,31 @@ impl fmt::Debug for Card<'_> {
 /// or has usable blocks of its own. Block 0 is not read.
 ///
 /// Refused by 8, 10; 4, 5, 16, 6 of the front table; 4, 5, 16, 6 of the back table; 17; 16.
-pub fn check(image: &[u8], block_size: BlockSize) -> Result<(), Refusal> {
+pub fn check(image: &[u8], block_size: BlockSize) -> Result<(), Refused> {
     // SAFETY: the pointer and the length are those of one slice, which is only read; a slice's pointer is not null, also where it is empty.
     let answer = unsafe { ffi::card_check(image.as_ptr(), image.len(), block_size.bytes()) };
-    accepted(answer.number, answer.slot)
+    accepted(answer.number, answer.slot, answer.place, answer.differs)
 }
 
 /// What a slot of a card holds, or `None` where it is unused.
 ///
 /// Refused as [`check`] is, then by 18.
-pub fn get(image: &[u8], block_size: BlockSize, slot: u32) -> Result<Option<Record>, Refusal> {
+pub fn get(image: &[u8], block_size: BlockSize, slot: u32) -> Result<Option<Record>, Refused> {
     // SAFETY: the pointer and the length are those of one slice, which is only read; a slice's pointer is not null, also where it is empty.
     let answer = unsafe { ffi::card_read_slot(image.as_ptr(), image.len(), block_size.bytes(), slot) };
-    accepted(answer.number, 0)?;
+    accepted(answer.number, 0, answer.place, answer.differs)?;
     Ok((answer.present != 0).then(|| Record::from_c(answer.partition)))
 }
 
 /// The used slots of a card, ascending, each with its record.
 ///
 /// Refused as [`check`] is.
-pub fn list(image: &[u8], block_size: BlockSize) -> Result<Listing, Refusal> {
+pub fn list(image: &[u8], block_size: BlockSize) -> Result<Listing, Refused> {
     let mut rows = vec![ffi::card_row::ZERO; SLOTS as usize];
     let (out, out_len) = (rows.as_mut_ptr().cast::<u8>(), size_of_val(rows.as_slice()));
     // SAFETY: each pointer and length are those of one slice; `rows` is new, so `image` is not inside it, and its structs take every byte.
     let answer = unsafe { ffi::card_list(image.as_ptr(), image.len(), block_size.bytes(), out, out_len) };
-    accepted(answer.number, 0)?;
+    accepted(answer.number, 0, answer.place, answer.differs)?;
     rows.truncate(answer.count as usize);
     Ok(Listing { rows: rows.into_iter() })
 }

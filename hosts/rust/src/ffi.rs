@@ -57,12 +57,16 @@ structs! {
     gpt_settings 56 {
         0 disk_guid: gpt_guid, 16 backup_lba: u64, 24 first_usable: u64, 32 last_usable: u64, 40 num_parts: u32, 44 part_size: u32, 48 primary: u8
     }
-    card_answer 8 { 0 number: u32, 4 slot: u32 }
+    card_answer 16 { 0 number: u32, 4 slot: u32, 8 place: u32, 12 differs: u32 }
+    card_stored 24 { 0 number: u32, 4 place: u32, 8 differs: u32, 16 bytes: u64 }
+    card_count 16 { 0 number: u32, 4 count: u32, 8 place: u32, 12 differs: u32 }
+    card_next 16 { 0 number: u32, 4 slot: u32, 8 place: u32, 12 differs: u32 }
+    card_slot_read 152 { 0 number: u32, 4 present: u8, 8 place: u32, 12 differs: u32, 16 partition: gpt_partition }
+    card_used_read 160 { 0 number: u32, 4 found: u8, 8 slot: u32, 12 place: u32, 16 differs: u32, 24 partition: gpt_partition }
     gpt_stored 16 { 0 number: u32, 8 bytes: u64 }
     gpt_count 8 { 0 number: u32, 4 count: u32 }
     gpt_next 8 { 0 number: u32, 4 slot: u32 }
     gpt_slot_read 144 { 0 number: u32, 4 present: u8, 8 partition: gpt_partition }
-    card_used_read 152 { 0 number: u32, 4 found: u8, 8 slot: u32, 16 partition: gpt_partition }
     card_row 136 { 0 slot: u64, 8 entry: gpt_entry }
     gpt_header_read 96 { 0 number: u32, 8 header: gpt_header }
     gpt_block 16 { 0 number: u32, 8 lba: u64 }
@@ -88,12 +92,12 @@ functions! {
     fn card_check(img: *const u8, img_len: usize, b: u64) -> card_answer;
     fn card_put(img: *mut u8, img_len: usize, b: u64, slot: u32, partition: gpt_partition) -> card_answer;
     fn card_clear(img: *mut u8, img_len: usize, b: u64, slot: u32) -> card_answer;
-    fn card_write_payload(img: *mut u8, img_len: usize, b: u64, slot: u32, place: usize, bytes: *const u8, bytes_len: usize) -> gpt_stored;
-    fn card_count_used(img: *const u8, img_len: usize, b: u64) -> gpt_count;
-    fn card_next_used(img: *const u8, img_len: usize, b: u64, after: u32) -> gpt_next;
-    fn card_read_slot(img: *const u8, img_len: usize, b: u64, slot: u32) -> gpt_slot_read;
+    fn card_write_payload(img: *mut u8, img_len: usize, b: u64, slot: u32, place: usize, bytes: *const u8, bytes_len: usize) -> card_stored;
+    fn card_count_used(img: *const u8, img_len: usize, b: u64) -> card_count;
+    fn card_next_used(img: *const u8, img_len: usize, b: u64, after: u32) -> card_next;
+    fn card_read_slot(img: *const u8, img_len: usize, b: u64, slot: u32) -> card_slot_read;
     fn card_nth_used(img: *const u8, img_len: usize, b: u64, k: u32) -> card_used_read;
-    fn card_list(img: *const u8, img_len: usize, b: u64, out: *mut u8, out_len: usize) -> gpt_count;
+    fn card_list(img: *const u8, img_len: usize, b: u64, out: *mut u8, out_len: usize) -> card_count;
     fn gpt_crc32(bytes: *const u8, bytes_len: usize) -> u32;
     fn gpt_crc32_next(running: u32, bytes: *const u8, bytes_len: usize) -> u32;
     fn gpt_read_primary_header(img: *const u8, img_len: usize, b: u64) -> gpt_header_read;

@@ -20,7 +20,7 @@
 //! # }
 //! ```
 //!
-//! Every call takes every image and every number. It ends, and accepts or gives a [`Refusal`]; a refused call changes no byte of the image.
+//! Every call takes every image and every number. It ends, and accepts or says by [`Refused`] why it does not, and where the card check refused; a refused call changes no byte of the image.
 //! That is proved of the library; that this crate hands the bytes over rightly is not proved, but tested. The ported calls on headers, entries and the MBR are
 //! in [`ffi`], as C has them. [`crc32_next`] is the check sum of bytes that come in pieces.
 //!
@@ -43,4 +43,4 @@ mod repository;
 pub use calls::{check, crc32_next, get, list, BlockSize, Card, Listing, FRESH, SLOTS};
 pub use guid::{Guid, GuidError};
 pub use record::{Entry, Flags, Name, NameError, Record};
-pub use refusal::Refusal;
+pub use refusal::{Place, Refusal, Refused};

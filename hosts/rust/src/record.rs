@@ -149,8 +149,7 @@ impl Flags {
     pub fn bits(self) -> Result<u64, Refusal> {
         // SAFETY: the call takes and gives numbers alone, and each yes/no is 0 or 1.
         let answer = unsafe { ffi::gpt_flags_bits(self.to_c()) };
-        accepted(answer.number, 0)?;
-        Ok(answer.bits)
+        accepted(answer.number, 0, 0, 0).map(|()| answer.bits).map_err(|refused| refused.refusal)
     }
 
     fn to_c(self) -> ffi::gpt_flags {

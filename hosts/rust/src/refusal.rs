@@ -1,4 +1,4 @@
-//! The numbers by which a call is refused, with their names and meanings.
+//! The numbers by which a call is refused, with their names and meanings, and the place that the card check names.
 use std::{error, fmt};
 
 /// Declares the refusals of the table once: their numbers, names and meanings. 22 and 25 stand beside them, since they carry a slot.
@@ -105,11 +105,83 @@ refusals! {
 
 impl error::Error for Refusal {}
 
+/// Where the card check refused.
+#[derive(Clone, Copy, Debug, PartialEq, Eq, Hash)]
+pub enum Place {
+    /// In the front table: its header, its array, or the entries.
+    Front,
+    /// In the back table.
+    Back,
+    /// The two tables have different disk GUIDs.
+    DiskGuid,
+    /// The first slot whose 128 bytes differ in the two tables.
+    Slot(u32),
+}
+
+impl Place {
+    /// The place of its number in an answer, with the slot that differs; `None` for 0, which is no place.
+    const fn from_number(place: u32, differs: u32) -> Option<Place> {
+        match place {
+            1 => Some(Place::Front),
+            2 => Some(Place::Back),
+            3 => Some(Place::DiskGuid),
+            4 => Some(Place::Slot(differs)),
+            _ => None,
+        }
+    }
+}
+
+/// Why a card call was refused: the refusal, and the place of 4, 5, 6, 16 and 17 of the card check. Who asks for [`refusal`](Refused::refusal) alone sees
+/// what a call that knows no places would say.
+#[derive(Clone, Copy, Debug, PartialEq, Eq, Hash)]
+pub struct Refused {
+    /// The refusal by its name.
+    pub refusal: Refusal,
+    /// Where the card check refused; `None` for every other refusal.
+    pub place: Option<Place>,
+}
+
+impl Refused {
+    /// The number that the library gives, from 1 to 38.
+    pub const fn number(self) -> u32 {
+        self.refusal.number()
+    }
+}
+
+/// A refusal that names no place.
+impl From<Refusal> for Refused {
+    fn from(refusal: Refusal) -> Refused {
+        Refused { refusal, place: None }
+    }
+}
+
+/// As a refusal is said, with the place in words, as `refused 6, PartsCrc: the back table's entry check sum does not match`.
+impl fmt::Display for Refused {
+    fn fmt(&self, f: &mut fmt::Formatter<'_>) -> fmt::Result {
+        let Some(place) = self.place else { return self.refusal.fmt(f) };
+        write!(f, "refused {}, {}: ", self.number(), self.refusal.name())?;
+        let table = match place {
+            Place::Front => "front",
+            Place::Back => "back",
+            Place::DiskGuid => return f.write_str("the two tables have different disk GUIDs"),
+            Place::Slot(slot) => return write!(f, "the two tables differ, first in slot {slot}"),
+        };
+        match self.refusal {
+            Refusal::InvalidGptSignature => write!(f, "the {table} table's header does not begin with EFI PART"),
+            Refusal::InvalidCRC32Checksum => write!(f, "the {table} table's header check sum does not match"),
+            Refusal::PartsCrc => write!(f, "the {table} table's entry check sum does not match"),
+            _ => write!(f, "the {table} table is not laid out as a card's"),
+        }
+    }
+}
+
+impl error::Error for Refused {}
+
 /// Accepts 0. Any other number is in the table: each export's contract says so.
-pub(crate) fn accepted(number: u32, slot: u32) -> Result<(), Refusal> {
+pub(crate) fn accepted(number: u32, slot: u32, place: u32, differs: u32) -> Result<(), Refused> {
     match (number, Refusal::from_number(number, slot)) {
         (0, _) => Ok(()),
-        (_, Some(refusal)) => Err(refusal),
+        (_, Some(refusal)) => Err(Refused { refusal, place: Place::from_number(place, differs) }),
         _ => unreachable!("libcard gave {number}, which include/card.h does not list"),
     }
 }
@@ -122,7 +194,8 @@ mod tests {
     #[test]
     fn refusals_are_those_of_the_header() {
         let Some(header) = crate::repository::header() else { return };
-        let lines: Vec<&str> = header.lines().filter(|line| line.starts_with("    CARD_") && line.contains(" = ")).collect();
+        let lines: Vec<&str> =
+            header.lines().filter(|line| line.starts_with("    CARD_") && !line.starts_with("    CARD_PLACE_") && line.contains(" = ")).collect();
         assert_eq!(lines.len(), 39);
         assert_eq!((Refusal::from_number(0, 0), Refusal::from_number(39, 0)), (None, None));
         for (number, line) in (1..).zip(&lines[1..]) {
@@ -136,9 +209,28 @@ mod tests {
             let said = refusal.to_string();
             match refusal {
                 Refusal::Overlap { slot } => assert_eq!((slot, said.as_str()), (7, "refused 22, Overlap: a block that another slot has (slot 7)")),
-                Refusal::TwinGuid { slot } => assert_eq!((slot, said.as_str()), (7, "refused 25, TwinGuid: a partition GUID that another used slot has (slot 7)")),
+                Refusal::TwinGuid { slot } => {
+                    assert_eq!((slot, said.as_str()), (7, "refused 25, TwinGuid: a partition GUID that another used slot has (slot 7)"))
+                }
                 _ => assert_eq!(said, format!("refused {number}, {}: {meaning}", refusal.name())),
             }
         }
+    }
+
+    /// The places of the C header's enum are these, and each is said in words.
+    #[test]
+    fn places_are_those_of_the_header() {
+        let Some(header) = crate::repository::header() else { return };
+        let lines: Vec<&str> = header.lines().map(str::trim).filter(|line| line.starts_with("CARD_PLACE_")).collect();
+        let names = ["NONE", "FRONT", "BACK", "DISK_GUID", "SLOT"];
+        assert_eq!(lines, (0..).zip(names).map(|(number, name)| format!("CARD_PLACE_{name} = {number},")).collect::<Vec<_>>());
+        let said = |number, place| accepted(number, 0, place, 5).unwrap_err().to_string();
+        assert_eq!(said(6, 2), "refused 6, PartsCrc: the back table's entry check sum does not match");
+        assert_eq!(said(4, 1), "refused 4, InvalidGptSignature: the front table's header does not begin with EFI PART");
+        assert_eq!(said(5, 2), "refused 5, InvalidCRC32Checksum: the back table's header check sum does not match");
+        assert_eq!(said(16, 1), "refused 16, WrongLayout: the front table is not laid out as a card's");
+        assert_eq!(said(17, 3), "refused 17, Disagree: the two tables have different disk GUIDs");
+        assert_eq!(said(17, 4), "refused 17, Disagree: the two tables differ, first in slot 5");
+        assert_eq!(said(23, 0), Refusal::EmptySlot.to_string());
     }
 }

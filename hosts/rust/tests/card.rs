@@ -1,5 +1,5 @@
 //! The card calls one by one: what they accept, each refusal that they can give, and that a refused call changes no byte.
-use card::{check, crc32_next, get, list, BlockSize, Card, Entry, Flags, Guid, GuidError, Name, NameError, Record, Refusal, FRESH, SLOTS};
+use card::{check, crc32_next, get, list, BlockSize, Card, Entry, Flags, Guid, GuidError, Name, NameError, Place, Record, Refusal, Refused, FRESH, SLOTS};
 use BlockSize::{B4096, B512};
 
 mod repository;
@@ -25,16 +25,21 @@ fn laid(size: BlockSize, blocks: usize) -> Vec<u8> {
 }
 
 /// Runs a call that must be refused so, and compares every byte of the image with what stood there.
-fn refused<T: std::fmt::Debug>(image: &mut [u8], size: BlockSize, refusal: Refusal, call: impl FnOnce(&mut Card) -> Result<T, Refusal>) {
+fn refused<T: std::fmt::Debug>(image: &mut [u8], size: BlockSize, refusal: Refusal, call: impl FnOnce(&mut Card) -> Result<T, Refused>) {
     let before = image.to_vec();
     let mut card = Card::open(image, size).unwrap();
-    assert_eq!(call(&mut card).unwrap_err(), refusal);
+    assert_eq!(call(&mut card).unwrap_err(), Refused::from(refusal));
     assert!(image == before, "a byte changed although the call was refused by {}", refusal.number());
 }
 
+/// A refusal of the card check, with its place.
+fn at(refusal: Refusal, place: Place) -> Refused {
+    Refused { refusal, place: Some(place) }
+}
+
 /// An image that is no card: every call that reads it is refused so, and none changes it.
-fn no_card(image: &mut [u8], size: BlockSize, refusal: Refusal) {
-    let before = image.to_vec();
+fn no_card(image: &mut [u8], size: BlockSize, refusal: impl Into<Refused>) {
+    let (before, refusal) = (image.to_vec(), refusal.into());
     assert_eq!(check(image, size), Err(refusal));
     assert_eq!(get(image, size, 1), Err(refusal));
     assert_eq!(list(image, size).unwrap_err(), refusal);
@@ -195,15 +200,15 @@ fn a_broken_table_is_refused() {
                 }
                 image
             };
-            let at = header * bytes_of(size);
-            no_card(&mut with(at, false), size, Refusal::InvalidGptSignature);
-            no_card(&mut with(at + 91, false), size, Refusal::InvalidCRC32Checksum);
-            no_card(&mut with(at + 48, true), size, Refusal::WrongLayout);
-            no_card(&mut with(start * bytes_of(size) + 16383, false), size, Refusal::PartsCrc);
-            no_card(&mut with(at + 56, true), size, Refusal::Disagree);
-            no_card(&mut with(start * bytes_of(size) + 16383, true), size, Refusal::Disagree);
+            let (first, table) = (header * bytes_of(size), if header == 1 { Place::Front } else { Place::Back });
+            no_card(&mut with(first, false), size, at(Refusal::InvalidGptSignature, table));
+            no_card(&mut with(first + 91, false), size, at(Refusal::InvalidCRC32Checksum, table));
+            no_card(&mut with(first + 48, true), size, at(Refusal::WrongLayout, table));
+            no_card(&mut with(start * bytes_of(size) + 16383, false), size, at(Refusal::PartsCrc, table));
+            no_card(&mut with(first + 56, true), size, at(Refusal::Disagree, Place::DiskGuid));
+            no_card(&mut with(start * bytes_of(size) + 16383, true), size, at(Refusal::Disagree, Place::Slot(128)));
         }
-        no_card(&mut [whole, vec![0; bytes_of(size)]].concat(), size, Refusal::WrongLayout);
+        no_card(&mut [whole, vec![0; bytes_of(size)]].concat(), size, at(Refusal::WrongLayout, Place::Front));
     }
 }
 
@@ -222,13 +227,13 @@ fn entries_that_a_card_cannot_have_are_refused() {
         image
     };
     assert_eq!(check(&forged(1, &entry), B512), Ok(()));
-    no_card(&mut forged(2, &entry), B512, Refusal::WrongLayout);
+    no_card(&mut forged(2, &entry), B512, at(Refusal::WrongLayout, Place::Front));
     let beside = [&entry[..32], &41u64.to_le_bytes(), &41u64.to_le_bytes(), &entry[48..]].concat();
-    no_card(&mut forged(2, &beside), B512, Refusal::WrongLayout);
+    no_card(&mut forged(2, &beside), B512, at(Refusal::WrongLayout, Place::Front));
     assert_eq!(check(&forged(2, &[&beside[..31], &[9], &beside[32..]].concat()), B512), Ok(()));
-    no_card(&mut forged(1, &[&[0; 16], &entry[16..]].concat()), B512, Refusal::WrongLayout);
-    no_card(&mut forged(1, &[&entry[..32], &33u64.to_le_bytes(), &entry[40..]].concat()), B512, Refusal::WrongLayout);
-    no_card(&mut forged(1, &[&entry[..40], &67u64.to_le_bytes(), &entry[48..]].concat()), B512, Refusal::WrongLayout);
+    no_card(&mut forged(1, &[&[0; 16], &entry[16..]].concat()), B512, at(Refusal::WrongLayout, Place::Front));
+    no_card(&mut forged(1, &[&entry[..32], &33u64.to_le_bytes(), &entry[40..]].concat()), B512, at(Refusal::WrongLayout, Place::Front));
+    no_card(&mut forged(1, &[&entry[..40], &67u64.to_le_bytes(), &entry[48..]].concat()), B512, at(Refusal::WrongLayout, Place::Front));
 }
 
 #[test]

@@ -12,7 +12,7 @@ fn the_builder_gives_the_header_that_lay_writes() {
         let built = gpt_build(settings, 512);
         assert_eq!((settings.primary, settings.num_parts, built.number), (1, 128, 0));
         assert_eq!((built.header.first_usable, built.header.last_usable, built.header.disk_guid), (34, 34, GUID));
-        assert_eq!(card_lay(image.as_mut_ptr(), image.len(), 512, GUID), card_answer { number: 0, slot: 0 });
+        assert_eq!(card_lay(image.as_mut_ptr(), image.len(), 512, GUID), card_answer { number: 0, slot: 0, place: 0, differs: 0 });
         let read = gpt_read_primary_header(image.as_ptr(), image.len(), 512);
         assert_eq!((read.number, read.header), (0, gpt_header { crc32: read.header.crc32, crc32_parts: 0xab54_d286, ..built.header }));
         let written = gpt_write_primary(image.as_mut_ptr(), image.len(), built.header, 512);

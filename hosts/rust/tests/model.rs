@@ -1,6 +1,6 @@
 //! Random sequences of calls beside a plain model: a map of slots and the payload's bytes. After each call the answer, the listing and every usable byte are
 //! the model's. The sequences are drawn from fixed seeds, so that a failure comes again.
-use card::{BlockSize, Card, Entry, Flags, Guid, Record, Refusal};
+use card::{BlockSize, Card, Entry, Flags, Guid, Record, Refusal, Refused};
 use std::collections::BTreeMap;
 
 const STEPS: u32 = 3000;
@@ -126,24 +126,24 @@ impl Model {
 /// Draws a call, runs it on both, and says by which number it came back.
 fn step(dice: &mut Dice, card: &mut Card, model: &mut Model) -> u32 {
     let slot = dice.slot();
-    let numbered = |refusal: Refusal| refusal.number();
+    let numbered = |refused: Refused| refused.number();
     match dice.below(8) {
         0..=3 => {
             let record = dice.record(model.first, model.last);
             let answer = card.put(slot, &record);
-            assert_eq!(answer, model.put(slot, &record), "put {slot} {record:?}");
+            assert_eq!(answer, model.put(slot, &record).map_err(Refused::from), "put {slot} {record:?}");
             answer.map_or_else(numbered, |_| 0)
         }
         4 => {
             let answer = card.clear(slot);
-            assert_eq!(answer, model.clear(slot), "clear {slot}");
+            assert_eq!(answer, model.clear(slot).map_err(Refused::from), "clear {slot}");
             answer.map_or_else(numbered, |_| 0)
         }
         _ => {
             let bytes: Vec<u8> = (0..dice.below(40)).map(|_| dice.next() as u8).collect();
             let place = if dice.below(30) == 0 { usize::MAX - 5 } else { dice.below(2 * model.block) as usize };
             let answer = card.write_payload(slot, place, &bytes);
-            assert_eq!(answer, model.write_payload(slot, place, &bytes), "payload {slot} {place} {}", bytes.len());
+            assert_eq!(answer, model.write_payload(slot, place, &bytes).map_err(Refused::from), "payload {slot} {place} {}", bytes.len());
             answer.map_or_else(numbered, |_| 0)
         }
     }

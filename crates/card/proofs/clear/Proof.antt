@@ -2,7 +2,6 @@
 use mathlib.Core.Path.{_≡_, refl, sym, ap, _∙_}
 use borrow.Author.Needs.{needs}
 use lib.ListN.{length}
-use Rattle.units.specs.Meanings.{verdictMeans}
 use Rattle.units.proofs.Chains.{number-of}
 use Rattle.tables.specs.Lens.{tables}
 use Rattle.tables.specs.Entries.{zeros}

@@ -5,7 +5,6 @@ use Prim.Native.Nat.{ℕ}
 use borrow.Author.Needs.{needs}
 use lib.ListN.{length}
 use Rattle.units.specs.Answer.{Ends}
-use Rattle.units.specs.Meanings.{verdictMeans}
 use Rattle.units.proofs.Chains.{number-of}
 use Rattle.tables.specs.Lens.{tables}
 use Rattle.card.specs.Calls.{putCheck, putAt}

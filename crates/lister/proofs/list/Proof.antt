@@ -1,7 +1,7 @@
 -- `lister::list` asks for slots only of a card that passed the check. Assumes nothing.
 use mathlib.Core.Path.{sym, ap, _∙_}
 use borrow.Author.Needs.{needs}
-use Rattle.units.specs.Meanings.{verdictMeans}
+use Rattle.units.specs.Meanings.{cardMeans}
 use Rattle.listing.proofs.Ways.{check-room}
 use Rattle.lister.proofs.list.Statement.{statement}
 use Rattle.lister.proofs.list.Tie as tie
@@ -36,7 +36,7 @@ text-requires c κs = search needs
 print-slots-requires : tie.Need-print-slots-requires
 print-slots-requires c κs =
     let a = c .before .before .before .before .before .before .before .before .args in
-    check-room 512 (a .img .now) (sym (c .before .before .before .before .before .before .check .ensures) ∙ ap verdictMeans (c .before .before .before .before .enum-told .given .1))
+    check-room 512 (a .img .now) (sym (c .before .before .before .before .before .before .check .ensures) ∙ ap cardMeans (c .before .before .before .before .enum-told .given .1))
 
 slice-aggregate-say-2 : tie.Need-slice-aggregate-say-2
 slice-aggregate-say-2 c = search needs

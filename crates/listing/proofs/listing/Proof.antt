@@ -1,7 +1,9 @@
 -- `listing::listing` meets its contract: the law of `rows/proofs/Lends`, at the plan of a card. Assumes nothing.
+use mathlib.Core.Path.{refl}
 use mathlib.Core.List.{[], _∷_}
 use contract.Running.{givenOf, tables, tablesOf}
 use denote.Builtin.{u64}
+use denote.Enum.Laws as EL
 use denote.Triple.Spec.{tripleOf}
 use denote.Triple.Table.{entered, cited}
 use mir.Syntax.{w64}
@@ -11,10 +13,16 @@ use Rattle.rows.proofs.inner.fill.Symbol as g-def
 use Rattle.rows.proofs.inner.fill.Symbol.{name as #g}
 use Rattle.rows.proofs.inner.fill.Met as g-thm
 use Rattle.listing.specs.LentRow.{cardEntries, listingRead}
+use Rattle.listing.specs.Meanings.{cardCountMeans}
+use Rattle.listing.proofs.CardCount as S
+use Rattle.listing.proofs.CardCount.Laws as S′
 use Rattle.listing.proofs.LentRow.{listed-within}
 use Rattle.listing.proofs.inner.plan_of.Symbol as p-def
 use Rattle.listing.proofs.inner.plan_of.Symbol.{name as #p}
 use Rattle.listing.proofs.inner.plan_of.Met as p-thm
+use Rattle.listing.proofs.inner.count_by.Symbol as z-def
+use Rattle.listing.proofs.inner.count_by.Symbol.{name as #z}
+use Rattle.listing.proofs.inner.count_by.Met as z-thm
 use Rattle.listing.proofs.listing.Key.{name as #f}
 use Rattle.listing.proofs.listing as f
 use Rattle.listing.proofs.listing.Statement as stated
@@ -25,10 +33,14 @@ abbrev call : law.Call
 call = record {
   Rs = u64 ∷ [];
   pars = (int w64, tt);
+  answers = record { row = S.the-row; mir = S′.mir; typed = λ 𝓤 H A W y w is. EL.lawful S.the-type S′.the-laws 𝓤 H A W tt .typed y _ is .0; means = cardCountMeans };
   ask = λ xs a. cardEntries (a .0) xs;
   told = λ xs a m. listingRead (a .0) xs m;
   same = λ xs a m. listed-within (a .0) xs m;
+  shown = λ a. a;
+  kept = λ xs a m row. refl;
   plan = #p;
+  answer = #z;
 }
 
 pub listing-spec : {M : Type 1} → stated.statement M
@@ -38,4 +50,5 @@ listing-spec 𝓤 H 𝓜 𝓖 𝓡 =
     (tables 𝓤 H 𝓜 𝓡 code.env .C) (tables 𝓤 H 𝓜 𝓡 code.env .Λ) #f code.function (code.unfolded 𝓤 H 𝓜 𝓡)
     (law.meets call 𝓤 H (𝓖 .A) (givenOf 𝓤 H 𝓜 𝓖) (𝓜 .mem) (𝓡 .run) (tablesOf 𝓤 H 𝓜 (tables 𝓤 H 𝓜 𝓡 code.env))
     (cited 𝓤 H (law.Plans call 𝓤 H (𝓖 .A)) 𝓜 𝓡 code.env #p p-def.routine code.calls-listing·inner·plan-of (p-thm.met 𝓤 H 𝓜 𝓖 𝓡))
-    (cited 𝓤 H (law.Fills 𝓤 H (𝓖 .A) (𝓜 .mem) (𝓡 .run)) 𝓜 𝓡 code.env #g g-def.routine code.calls-rows·inner·fill (g-thm.met 𝓤 H 𝓜 𝓖 𝓡)))
+    (cited 𝓤 H (law.Fills 𝓤 H (𝓖 .A) (𝓜 .mem) (𝓡 .run)) 𝓜 𝓡 code.env #g g-def.routine code.calls-rows·inner·fill (g-thm.met 𝓤 H 𝓜 𝓖 𝓡))
+    (cited 𝓤 H (law.Answers call 𝓤 H (𝓖 .A)) 𝓜 𝓡 code.env #z z-def.routine code.calls-listing·inner·count-by (z-thm.met 𝓤 H 𝓜 𝓖 𝓡)))

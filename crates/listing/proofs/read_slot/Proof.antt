@@ -1,7 +1,7 @@
 -- `listing::read_slot` meets its contract. Assumes nothing.
 use mathlib.Core.Path.{ap, _∙_}
 use borrow.Author.Needs.{needs}
-use Rattle.partition.specs.Meanings.{readMeans}
+use Rattle.listing.specs.Meanings.{slotMeans}
 use Rattle.listing.proofs.Ways.{slot-refused, slot-tested, slot-given}
 use Rattle.listing.proofs.read_slot.Statement.{statement}
 use Rattle.listing.proofs.read_slot.Tie as tie
@@ -12,7 +12,7 @@ slot-check-requires c κs = c .before .table .ensures
 returns : tie.Need-returns
 returns c =
     let a = c .before .before .before .before .before .before .before .before .args in
-    ap readMeans (c .refused .ensures) ∙ slot-refused (a .b) (a .img .now) (a .slot .0) (c .before .before .before .before .slot-check .ensures) (c .before .before .if1 .taken) (c .before .refusal .ensures)
+    ap slotMeans (c .refused .ensures) ∙ slot-refused (a .b) (a .img .now) (a .slot .0) (c .before .before .before .before .slot-check .ensures) (c .before .before .if1 .taken) (c .before .reason .ensures)
 
 slot-present-requires : tie.Need-slot-present-requires
 slot-present-requires c κs =

@@ -23,7 +23,7 @@ used-check-requires : tie.Need-used-check-requires
 used-check-requires c κs = c .before .table .ensures
 
 returns : tie.Need-returns
-returns c = let a = c .before .before .before .before .before .before .before .args in pay-refused (a .b) (length (a .img .now)) (tables (a .b) (a .img .now)) (a .slot .0) (a .place .0) (a .n) _ (c .before .before .before .used-check .ensures) (c .before .if1 .taken) (c .refusal .ensures)
+returns c = let a = c .before .before .before .before .before .before .before .args in pay-refused (a .b) (length (a .img .now)) (tables (a .b) (a .img .now)) (a .slot .0) (a .place .0) (a .n) _ (c .before .before .before .used-check .ensures) (c .before .if1 .taken) (c .reason .ensures)
 
 -- the slot is used
 tested : (c : tie.Else1) → let a = c .before .before .before .before .before .before .args in usedCheck (a .b) (length (a .img .now)) (tables (a .b) (a .img .now)) (a .slot .0) .number ≡ 0

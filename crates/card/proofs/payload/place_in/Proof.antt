@@ -52,8 +52,8 @@ returns-2 c =
     let e = ends-of s in
     past-end ((a .span .last .0 + 1 - a .span .first .0) * a .b) (a .place .0) (a .n) _ (omega (arith, start-is (c .before .before .before .before .before .before .before), end-is (c .before .before .before .before .before), e .0, e .1, c .before .before .if1 .left, c .if2 .taken))
 
-add-t16 : tie.Need-add-t16
-add-t16 c = let e = ends-of (c .before .before .before .before .before .before .before .before .before .before .before .before) in omega (arith, start-is (c .before .before .before .before .before .before .before .before .before), end-is (c .before .before .before .before .before .before .before), e .1, e .2, c .before .before .before .before .if1 .left, c .before .before .if2 .left)
+add-t18 : tie.Need-add-t18
+add-t18 c = let e = ends-of (c .before .before .before .before .before .before .before .before .before .before .before .before) in omega (arith, start-is (c .before .before .before .before .before .before .before .before .before), end-is (c .before .before .before .before .before .before .before), e .1, e .2, c .before .before .before .before .if1 .left, c .before .before .if2 .left)
 
 -- the bytes end before the partition does
 before : (c : tie.After-is-inside) → let a = c .before .before .before .before .before .before .before .before .before .before .before .before .before .args in (a .place .0 + a .n ≤ (a .span .last .0 + 1 - a .span .first .0) * a .b) × (c .before .before .before .before .before .before .before .before .before .before .place .result .0 + a .place .0 + a .n ≤ a .len)
@@ -77,4 +77,4 @@ returns-4 c =
     before-end ((a .span .last .0 + 1 - a .span .first .0) * a .b) (a .place .0) (a .n) _ (before (c .before) .0) (ap (λ (i : ℕ). record { 0 = i + a .place .0 }) (start-is (c .before .before .before .before .before .before .before .before .before .before .before)))
 
 pub place-in-spec : {M : Type 1} → statement M
-place-in-spec = tie.close (tie.spec place-requires add-t12 place-requires-2 sub-room returns returns-2 add-t16 (λ c κs. search needs) returns-3 returns-4)
+place-in-spec = tie.close (tie.spec place-requires add-t12 place-requires-2 sub-room returns returns-2 add-t18 (λ c κs. search needs) returns-3 returns-4)

@@ -1,7 +1,7 @@
 -- `cards::card_check` meets its contract. Assumes nothing.
 use mathlib.Core.Path.{ap, _∙_}
 use borrow.Author.Needs.{needs}
-use Rattle.card_c.specs.Exports.{answerToC}
+use Rattle.card_c.specs.CardExports.{answerToC}
 use Rattle.card_c.proofs.cards.card_check.Statement.{statement}
 use Rattle.card_c.proofs.cards.card_check.Tie as tie
 

@@ -2,8 +2,7 @@
 use mathlib.Core.Path.{ap, _∙_}
 use borrow.Author.Needs.{needs}
 use lib.ListN.{length}
-use Rattle.units.specs.declared.why.Why.{Why}
-use Rattle.units.specs.Meanings.{verdictMeans, verdictOf}
+use Rattle.units.specs.Meanings.{cardMeans, verdictOf}
 use Rattle.units.proofs.Chains.{verdict-judged}
 use Rattle.tables.specs.Lens.{tables}
 use Rattle.checking.proofs.CheckWays.{named-check}
@@ -16,7 +15,7 @@ check-with-requires c κs = c .before .table .ensures
 returns : tie.Need-returns
 returns c =
     let a = c .before .before .before .before .before .args in
-    ap verdictMeans (c .verdict .ensures ∙ ap verdictOf (c .before .check-with .ensures))
+    ap cardMeans (c .verdict .ensures ∙ ap verdictOf (c .before .check-with .ensures))
     ∙ verdict-judged _ (named-check (a .b) (length (a .img .now)) (tables (a .b) (a .img .now)))
 
 pub check-spec : {M : Type 1} → statement M

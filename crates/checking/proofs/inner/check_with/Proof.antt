@@ -5,7 +5,6 @@ use native.Mathlib.Omega.{arith}
 use borrow.Author.Needs.{needs}
 use lib.ListN.{length}
 use Rattle.units.proofs.Lists.{length-lent}
-use Rattle.units.proofs.Chains.{number-of}
 use Rattle.tables.specs.Lens.{Tables}
 use Rattle.tables.specs.Check.{roomCheck, check}
 use Rattle.tables.proofs.Good.{room-ok}
@@ -15,11 +14,11 @@ use Rattle.checking.proofs.inner.check_with.Statement.{statement}
 use Rattle.checking.proofs.inner.check_with.Tie as tie
 
 returns : tie.Need-returns
-returns c = check-room _ _ _ (c .before .before .room-check .ensures) (c .if1 .taken)
+returns c = check-room _ _ _ (c .before .room-check .ensures) (c .if1 .taken)
 
 -- there is room where the check goes on
-room : (c : tie.Else1) → let a = c .before .before .before .before .args in roomCheck (a .b) (length (a .img .now)) .number ≡ 0
-room c = sym (number-of (c .before .before .room-check .ensures)) ∙ c .if1 .left
+room : (c : tie.Else1) → let a = c .before .before .before .args in roomCheck (a .b) (length (a .img .now)) .number ≡ 0
+room c = sym (c .before .room-check .ensures) ∙ c .if1 .left
 
 back-place-requires : tie.Need-back-place-requires
 back-place-requires c κs = room c
@@ -36,7 +35,7 @@ part-copies-check-end-2 c = omega (arith, c .before .back-place .ensures .1)
 copies-check-requires : tie.Need-copies-check-requires
 copies-check-requires c κs =
     let p = c .before .before in
-    let s = p .before .before .before .before .before in
+    let s = p .before .before .before .before in
     let a = s .args in
     let r = room-ok _ _ (room (p .before)) in
     let back = p .back-place .ensures .1 in
@@ -45,7 +44,7 @@ copies-check-requires c κs =
 returns-2 : tie.Need-returns-2
 returns-2 c =
     let p = c .before .before .before in
-    let a = p .before .before .before .before .before .args in
+    let a = p .before .before .before .before .args in
     c .copies-check .ensures ∙ ap (λ (t : Tables). check (a .b) (length (a .img .now)) t) (lent-tables (a .b) (length (a .img .now)) (a .img .now) (room-ok _ _ (room (p .before))) (p .back-place .ensures .0))
 
 pub check-with-spec : {M : Type 1} → statement M

@@ -28,33 +28,33 @@ copy-check-requires c κs = let s = c .before .before .before .before .before .b
 
 returns : tie.Need-returns
 unfolding both
-returns c = let s = c .before .before .before .before .before .before .before .before .before in check-front (s .args .b) (s .args .len) (both s) (s .pre .1 .0) (c .before .before .copy-check .ensures) (c .if1 .taken)
+returns c = let s = c .before .before .before .before .before .before .before .before in check-front (s .args .b) (s .args .len) (both s) (s .pre .1 .0) (c .before .copy-check .ensures) (c .if1 .taken)
 
 back-sum-requires : tie.Need-back-sum-requires
 back-sum-requires c κs =
-    let s = c .before .before .before .before .before .before .before .before .before in
-    (s .pre .0, (s .pre .1 .2, λ t. c .before .before .before .array-sum .ensures ∙ ap crc (same-true _ _ (sym (agrees (c .before .before .before .before)) ∙ t))))
+    let s = c .before .before .before .before .before .before .before .before in
+    (s .pre .0, (s .pre .1 .2, λ t. c .before .before .array-sum .ensures ∙ ap crc (same-true _ _ (sym (agrees (c .before .before .before)) ∙ t))))
 
 copy-check-requires-2 : tie.Need-copy-check-requires-2
-copy-check-requires-2 c κs = let s = c .before .before .before .before .before .before .before .before .before .before in (s .pre .0, ((s .pre .1 .0, s .pre .1 .2), c .back-sum .ensures))
+copy-check-requires-2 c κs = let s = c .before .before .before .before .before .before .before .before .before in (s .pre .0, ((s .pre .1 .0, s .pre .1 .2), c .back-sum .ensures))
 
 returns-2 : tie.Need-returns-2
 unfolding both
 returns-2 c =
-    let f = c .before .before .before .before in
-    let s = f .before .before .before .before .before .before .before .before .before in
-    check-back (s .args .b) (s .args .len) (both s) (s .pre .1 .0) (f .before .before .copy-check .ensures) (f .if1 .left) (c .before .before .copy-check2 .ensures) (c .if2 .taken)
+    let f = c .before .before .before in
+    let s = f .before .before .before .before .before .before .before .before in
+    check-back (s .args .b) (s .args .len) (both s) (s .pre .1 .0) (f .before .copy-check .ensures) (f .if1 .left) (c .before .copy-check2 .ensures) (c .if2 .taken)
 
 pair-check-requires : tie.Need-pair-check-requires
-pair-check-requires c κs = let s = c .before .before .before .before .before .before .before .before .before .before .before .before .before in (s .pre .1, agrees (c .before .before .before .before .before .before .before .before))
+pair-check-requires c κs = let s = c .before .before .before .before .before .before .before .before .before .before .before in (s .pre .1, agrees (c .before .before .before .before .before .before))
 
 returns-3 : tie.Need-returns-3
 unfolding both
 returns-3 c =
     let k = c .before in
-    let f = k .before .before .before .before in
-    let s = f .before .before .before .before .before .before .before .before .before in
-    check-pair (s .args .b) (s .args .len) (both s) (s .pre .1 .0) (f .before .before .copy-check .ensures) (f .if1 .left) (k .before .before .copy-check2 .ensures) (k .if2 .left) (c .pair-check .ensures)
+    let f = k .before .before .before in
+    let s = f .before .before .before .before .before .before .before .before in
+    check-pair (s .args .b) (s .args .len) (both s) (s .pre .1 .0) (f .before .copy-check .ensures) (f .if1 .left) (k .before .copy-check2 .ensures) (k .if2 .left) (c .pair-check .ensures)
 
 pub copies-check-spec : {M : Type 1} → statement M
 copies-check-spec =

@@ -3,6 +3,7 @@ use mathlib.Core.Path.{_≡_, _∙_}
 use native.Mathlib.Omega.{arith}
 use borrow.Author.Needs.{needs}
 use Rattle.units.specs.Bytes.{part}
+use Rattle.units.proofs.Chains.{number-of}
 use Rattle.tables.specs.Lens.{sideOf, copyIn}
 use Rattle.tables.specs.Check.{copyCheck, tableCheck}
 use Rattle.tables.proofs.Good.{room-ok}
@@ -13,13 +14,13 @@ use Rattle.checking.proofs.inner.copy_check.Tie as tie
 
 -- the check of the header's bytes at their place is the table's
 by : (c : tie.After-header-in) → let a = c .before .before .args in
-    copyCheck (a .b) (a .len) (sideOf (a .back)) (part (a .copy .now) (c .header-in .result .0) 92) (copyIn (a .b) (sideOf (a .back)) (a .copy .now) .array)
-    ≡ tableCheck (a .b) (a .len) (sideOf (a .back)) (copyIn (a .b) (sideOf (a .back)) (a .copy .now))
+    copyCheck (a .b) (a .len) (sideOf (a .back)) (part (a .copy .now) (c .header-in .result .0) 92) (copyIn (a .b) (sideOf (a .back)) (a .copy .now) .array) .number
+    ≡ tableCheck (a .b) (a .len) (sideOf (a .back)) (copyIn (a .b) (sideOf (a .back)) (a .copy .now)) .number
 by c =
     let s = c .before .before in
     let a = s .args in
     let r = room-ok _ _ (s .pre .1 .0 .0) in
-    copy-by (a .b) (a .len) (sideOf (a .back)) (a .copy .now) (c .header-in .ensures .0) (omega (arith, r .least))
+    number-of (copy-by (a .b) (a .len) (sideOf (a .back)) (a .copy .now) (c .header-in .ensures .0) (omega (arith, r .least)))
 
 header-in-requires : tie.Need-header-in-requires
 header-in-requires c κs = search needs

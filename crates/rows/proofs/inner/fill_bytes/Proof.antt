@@ -78,19 +78,16 @@ loop-again c =
       rows-more (a .img .now) q (l .at) (c .before .before .before .before .before .next-slot .result) (l .i) (l .out) n (c .before .before .before .before .entry-in .ensures) (c .before .before .put-row .ensures) ∙ l .inv .2,
     )
 
-answer-requires : tie.Need-answer-requires Inv-loop μ-loop
-answer-requires c κs = search needs
-
 same-length : tie.Need-same-length Inv-loop μ-loop
 same-length c = search needs
 
 returns : tie.Need-returns Inv-loop μ-loop
 returns c =
-    let a = c .before .before .before .before .before .before .before .args in
-    let l = c .before .before .loop in
-    let q = c .before .before .before .before .within .result in
+    let a = c .before .before .before .before .before .before .args in
+    let l = c .before .loop in
+    let q = c .before .before .before .within .result in
     let z : length (left (a .img .now) q (l .at)) ≡ 0 = omega arith in
-    bytes-ends (a .img .now) (a .p) (a .out .now) (c .before .before .before .before .before .before .before .pre) (c .before .before .before .before .within .ensures) (c .answer .ensures) (sym (rows-none (a .img .now) q (l .at) (l .out) (136 * l .i) z) ∙ l .inv .2)
+    bytes-ends (a .img .now) (a .p) (a .out .now) (c .before .before .before .before .before .before .pre) (c .before .before .before .within .ensures) refl (sym (rows-none (a .img .now) q (l .at) (l .out) (136 * l .i) z) ∙ l .inv .2)
 
 pub fill-bytes-spec : {M : Type 1} → statement M
 fill-bytes-spec =
@@ -108,6 +105,5 @@ fill-bytes-spec =
     add-i
     loop-less
     loop-again
-    answer-requires
     same-length
     returns)

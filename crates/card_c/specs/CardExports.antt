@@ -1,0 +1,83 @@
+-- What C gets for each answer of the card calls: the number first, 0 for accepted, then the values, and the place that the card check names (document 02, 5/13), with the slot that
+-- differs apart from the slot that 22 or 25 carries. Beside a refusal each value is zero. Assumes nothing.
+use mathlib.Core.Bool.{false}
+use mathlib.Core.List.{List, []}
+use Prim.Native.Nat.{ℕ}
+use lib.ListN.{getD}
+use Rattle.units.specs.declared.Place.{Place}
+use Rattle.units.specs.declared.Place.the-variants as place
+use Rattle.units.specs.declared.why.Why.{Why}
+use Rattle.units.specs.Answer.{Answer, accepted, refused, fine, andThen, Beside}
+use Rattle.partition.specs.Array.{Found}
+use Rattle.partition.specs.Format.{zeroPartition}
+use Rattle.listing.specs.Listing.{Listed}
+use Rattle.listing.specs.Meanings.{Used, firstUsed}
+use Rattle.card_c.specs.declared.answers.CardAnswer.{CardAnswer}
+use Rattle.card_c.specs.declared.answers.CardStored.{CardStored}
+use Rattle.card_c.specs.declared.answers.CardCount.{CardCount}
+use Rattle.card_c.specs.declared.answers.CardNext.{CardNext}
+use Rattle.card_c.specs.declared.answers.CardSlotRead.{CardSlotRead}
+use Rattle.card_c.specs.declared.answers.CardUsedRead.{CardUsedRead}
+
+-- the number of a place, and the slot that differs
+abbrev pub placeNumber : Place → ℕ
+placeNumber place.Nowhere = 0
+placeNumber place.Front = 1
+placeNumber place.Back = 2
+placeNumber place.DiskGuid = 3
+placeNumber (place.InSlot s) = 4
+
+abbrev pub differsIn : Place → ℕ
+differsIn place.Nowhere = 0
+differsIn place.Front = 0
+differsIn place.Back = 0
+differsIn place.DiskGuid = 0
+differsIn (place.InSlot s) = s .0
+
+-- a refusal as a value, or none
+abbrev pub whyToC : Why → CardAnswer
+whyToC w = record { number = w .number; slot = w .slot .0; place = placeNumber (w .place); differs = differsIn (w .place) }
+
+-- a struct made of that and the value; beside a refusal stands the value z
+unfoldable pub crossedAt : {A S : Type 0} → (CardAnswer → A → S) → A → Answer A → S
+crossedAt make z (accepted x) = make (whyToC fine) x
+crossedAt make z (refused w) = make (whyToC w) z
+
+abbrev pub answerToC : Answer Unit → CardAnswer
+answerToC a = crossedAt (λ k u. k) tt a
+
+-- the same of an answer that has its value beside the verdict
+unfoldable pub asideAt : {A S : Type 0} → (CardAnswer → A → S) → Beside A → S
+asideAt make r = make (answerToC (r .verdict)) (r .value)
+
+abbrev pub cardStoredMade : CardAnswer → ℕ → CardStored
+cardStoredMade k n = record { number = k .number; place = k .place; differs = k .differs; bytes = n }
+
+abbrev pub cardStoredToC : Answer ℕ → CardStored
+cardStoredToC a = crossedAt cardStoredMade 0 a
+
+abbrev pub cardCountMade : CardAnswer → ℕ → CardCount
+cardCountMade k n = record { number = k .number; count = n; place = k .place; differs = k .differs }
+
+abbrev pub cardCountToC : Answer ℕ → CardCount
+cardCountToC a = crossedAt cardCountMade 0 a
+
+-- the slot of a list of at most one; 0: no more
+abbrev pub cardNextMade : CardAnswer → List ℕ → CardNext
+cardNextMade k l = record { number = k .number; slot = getD l 0 0; place = k .place; differs = k .differs }
+
+abbrev pub cardNextToC : Answer (List ℕ) → CardNext
+cardNextToC a = crossedAt cardNextMade [] a
+
+abbrev pub cardHeldMade : CardAnswer → Found → CardSlotRead
+cardHeldMade k f = record { number = k .number; present = f .present; place = k .place; differs = k .differs; partition = f .partition }
+
+abbrev pub cardHeldToC : Answer Found → CardSlotRead
+cardHeldToC a = crossedAt cardHeldMade (record { present = false; partition = zeroPartition }) a
+
+abbrev pub usedMade : CardAnswer → Used → CardUsedRead
+usedMade k u = record { number = k .number; found = u .found; slot = u .slot; place = k .place; differs = k .differs; partition = u .partition }
+
+-- the entry of a list of at most one; of none, as beside a refusal, slot 0 and the zero record
+abbrev pub usedToC : Answer (List Listed) → CardUsedRead
+usedToC a = crossedAt usedMade (firstUsed []) (andThen a (λ l. accepted (firstUsed l)))
