@@ -5,7 +5,8 @@
    call changes no byte that was lent to it, and every field of its answer but the number, and the slot or the place that the number names, is zero.
 
    What a caller owes:
-   - A lent slice is a pointer and then a length in bytes. The pointer points to so many bytes and is never null, also where the length is 0.
+   - A lent slice is a pointer and then a length in bytes. The pointer points to so many bytes and is never null, also where the length is 0. A row of
+     64-bit numbers has its length in numbers.
    - Two slices that are lent to one call do not overlap if the call writes one of them.
    - While a call runs, nobody else writes a slice that is lent to it: no other thread, no other process and no device. A call that only reads
      a slice lets others read it too.
@@ -37,7 +38,7 @@ extern "C" {
 #define CARD_AT(type, field, place) CARD_ASSERT(offsetof(type, field) == (place), "the place of " #field " in " #type)
 
 /* The bytes of stack that a call needs at most. Of these the check sum's table is 16,384, in every call that sums anything but one header alone; all else was at
-   most 2,152 when it was last measured. tests/c/stack.c measures every call, and makes it on a thread of 24 KiB. */
+   most 2,216 when it was last measured. tests/c/stack.c measures every call, and makes it on a thread of 24 KiB. */
 #define CARD_STACK 20480
 
 /* The numbers that a call comes back with. A call's tests run in the order in which its numbers are listed beside it; 1 is always first. */
@@ -57,7 +58,7 @@ enum card_number {
     CARD_INVALID_MBR_LENGTH = 12,      /* the buffer is not one block long */
     CARD_INVALID_MBR_SIGNATURE = 13,   /* bytes 510 and 511 are not 55 AA */
     CARD_INVALID_PARTITION_LENGTH = 14, /* the MBR record's buffer is not 16 bytes long */
-    CARD_NO_ROOM = 15,                 /* more entries are present than there is room for in what was lent */
+    CARD_NO_ROOM = 15,                 /* more entries or runs are there than there is room for in what was lent */
     CARD_WRONG_LAYOUT = 16,            /* the table is not laid out as a card's */
     CARD_DISAGREE = 17,                /* the two tables differ */
     CARD_BAD_SLOT = 18,                /* there is no such slot or record */
@@ -434,6 +435,14 @@ CARD_AT(card_row, entry, 8);
    record that card_read_slot gives. The bytes after the last row stay. out is a card_row array, as bytes, or any other bytes.
    The check's numbers, then 15 where out_len is less than 136 times the count. */
 card_count card_list(const uint8_t *img, size_t img_len, uint64_t b, uint8_t *out, size_t out_len);
+
+/* How many runs of free blocks a card has at most. */
+#define CARD_RUNS 129
+
+/* The free ground into two lent rows, after one check: the maximal runs of usable blocks that no used slot has, ascending, and how many there are. starts[k]
+   is the first block of run k and lengths[k] how many blocks it has. The places after the count stay. Both lengths are in numbers, not in bytes.
+   The check's numbers, then 15 where either row has fewer places than there are runs. */
+card_count card_free_runs(const uint8_t *img, size_t img_len, uint64_t b, uint64_t *starts, size_t starts_len, uint64_t *lengths, size_t lengths_len);
 
 /* ---- the ported calls: the check sum and headers */
 

@@ -89,7 +89,7 @@ fi
 run edits "each changed function of an edit"
 run programs "the programs that are run below"
 run example "the stored cards are the independent maker's" python3 cmp
-run lister-test "the lister" x86-64 python3
+run lister-test "the lister and free_ground" x86-64 python3
 run demo "the sample card, laid and listed" x86-64
 run sums "the check sums of published vectors" x86-64
 run lib "the library for C" x86-64 cc

@@ -1,6 +1,6 @@
-"""The card calls for Python, over libcard.so: lay, check, put, clear, write_payload, listing; and crc32_next, the check sum of bytes that come in pieces.
+"""The card calls for Python, over libcard.so: lay, check, put, clear, write_payload, listing, free_runs; and crc32_next, the check sum of bytes that come in pieces.
 
-An image is any writable buffer of contiguous bytes, such as a bytearray or an mmap; check and listing take read-only ones too, such as bytes. No call
+An image is any writable buffer of contiguous bytes, such as a bytearray or an mmap; check, listing and free_runs take read-only ones too, such as bytes. No call
 copies the image. A call that is refused raises Refused, with the number of the refusal (NUMBERS), and changes nothing.
 
 The interpreter's lock is kept during a call, so that no other thread of Python writes the image meanwhile. Other processes must not do so either.
@@ -31,7 +31,11 @@ Traceback (most recent call last):
   ...
 card.Refused: refused 4, InvalidGptSignature: the back table's header does not begin with EFI PART
 >>> image[68 * 512 - 512] ^= 1
+>>> free_runs(image, 512)
+[]
 >>> clear(image, 512, 1)
+>>> free_runs(image, 512)
+[range(34, 35)]
 >>> listing(image, 512), bytes(image[34 * 512:34 * 512 + 11])
 ([], b'north ridge')
 >>> hex(crc32_next(crc32_next(FRESH, b"1234"), b"56789"))
@@ -49,6 +53,7 @@ import uuid
 from dataclasses import dataclass, field, replace
 
 BASIC_DATA = uuid.UUID("ebd0a0a2-b9e5-4433-87c0-68b6b72699c7")
+RUNS = 129  # how many runs of free blocks a card has at most
 FRESH = 0  # the sum of nothing, from which crc32_next starts a new sum
 
 NUMBERS = {
@@ -66,7 +71,7 @@ NUMBERS = {
     12: ("InvalidMBRLength", "the buffer is not one block long"),
     13: ("InvalidMBRSignature", "bytes 510 and 511 are not 55 AA"),
     14: ("InvalidPartitionLength", "the MBR record's buffer is not 16 bytes long"),
-    15: ("NoRoom", "more entries are present than there is room for in what was lent"),
+    15: ("NoRoom", "more entries or runs are there than there is room for in what was lent"),
     16: ("WrongLayout", "the table is not laid out as a card's"),
     17: ("Disagree", "the two tables differ"),
     18: ("BadSlot", "there is no such slot or record"),
@@ -268,6 +273,7 @@ _put = _declare("card_put", _Answer, *_slice, ctypes.c_uint64, ctypes.c_uint32, 
 _clear = _declare("card_clear", _Answer, *_slice, ctypes.c_uint64, ctypes.c_uint32)
 _payload = _declare("card_write_payload", _Stored, *_slice, ctypes.c_uint64, ctypes.c_uint32, ctypes.c_size_t, *_slice)
 _list = _declare("card_list", _Count, *_slice, ctypes.c_uint64, *_slice)
+_free_runs = _declare("card_free_runs", _Count, *_slice, ctypes.c_uint64, *_slice, *_slice)
 _flags_of = _declare("gpt_flags_of", _Flags, ctypes.c_uint64)
 _flags_bits = _declare("gpt_flags_bits", _Bits, _Flags)
 _sum_next = _declare("gpt_crc32_next", ctypes.c_uint32, ctypes.c_uint32, *_slice)
@@ -390,6 +396,14 @@ def listing(image, block_size):
     with _lent(image) as lent:
         n = _take(_list(*lent, _blocks(block_size), ctypes.byref(rows), ctypes.sizeof(rows))).count
     return [Entry(row.slot, _read(row.entry)) for row in rows[:n]]
+
+
+def free_runs(image, block_size):
+    """The free ground: the maximal runs of usable blocks that no used slot has, ascending, each as a range of blocks. The check's numbers."""
+    starts, lengths = (ctypes.c_uint64 * RUNS)(), (ctypes.c_uint64 * RUNS)()
+    with _lent(image) as lent:
+        n = _take(_free_runs(*lent, _blocks(block_size), ctypes.byref(starts), RUNS, ctypes.byref(lengths), RUNS)).count
+    return [range(first, first + blocks) for first, blocks in zip(starts[:n], lengths[:n])]
 
 
 def crc32_next(running, data):

@@ -215,6 +215,7 @@ static void flags(void) {
 #define AT(x, p, d) do { SAME((x).place, p); SAME((x).differs, d); } while (0)
 static void all_at(uint32_t number, uint32_t place, uint32_t differs) {
     uint8_t rows[136];
+    uint64_t starts[1], lengths[1];
     card_answer a = card_check(img, LEN, BLOCK);
     SAME(a.number, number);
     SAME(a.slot, 0);
@@ -227,6 +228,7 @@ static void all_at(uint32_t number, uint32_t place, uint32_t differs) {
     AT(card_read_slot(img, LEN, BLOCK, 1), place, differs);
     AT(card_nth_used(img, LEN, BLOCK, 0), place, differs);
     AT(card_list(img, LEN, BLOCK, rows, sizeof rows), place, differs);
+    AT(card_free_runs(img, LEN, BLOCK, starts, 1, lengths, 1), place, differs);
 }
 
 /* One array or header changed, its sums made right by the ported calls where that is asked for: which table, and where. The image is given back as it was. */
@@ -324,6 +326,33 @@ static void lists(void) {
     SAME(rows[1].slot, 128);
     STANDS(&rows[1].entry, q);
     BYTES(&rows[2], &old[2], sizeof rows[2]);
+}
+
+/* Slots 7 (blocks 35 and 36) and 128 (block 34) leave no block free; without slot 128 there is one run, of one block. */
+static void free_ground(void) {
+    uint64_t starts[2] = {1, 2}, lengths[2] = {4, 5};
+    memcpy(before, img, LEN);
+    card_count n = card_free_runs(img, LEN, BLOCK, starts, 0, lengths, 0);
+    SAME(n.number, 0);
+    SAME(n.count, 0);
+    SAME(card_clear(img, LEN, BLOCK, 128).number, 0);
+    n = card_free_runs(img, LEN, BLOCK, starts, 0, lengths, 2);
+    SAME(n.number, CARD_NO_ROOM);
+    SAME(n.count, 0);
+    AT(n, CARD_PLACE_NONE, 0);
+    SAME(card_free_runs(img, LEN, BLOCK, starts, 2, lengths, 0).number, CARD_NO_ROOM);
+    SAME(card_free_runs(img, LEN, 1, starts, 2, lengths, 2).number, CARD_BAD_BLOCK_SIZE);
+    SAME(starts[0], 1);
+    SAME(lengths[0], 4);
+    n = card_free_runs(img, LEN, BLOCK, starts, 1, lengths, 2);
+    SAME(n.number, 0);
+    SAME(n.count, 1);
+    SAME(starts[0], 34);
+    SAME(lengths[0], 1);
+    SAME(starts[1], 2);
+    SAME(lengths[1], 5);
+    SAME(card_put(img, LEN, BLOCK, 128, some(34, 34)).number, 0);
+    KEPT();
 }
 
 static void payloads(void) {
@@ -710,6 +739,7 @@ int main(void) {
     counts();
     reads();
     lists();
+    free_ground();
     payloads();
     headers();
     sums();

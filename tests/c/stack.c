@@ -20,6 +20,7 @@
 
 static uint8_t img[LEN], was[128], is[128];
 static card_row rows[128];
+static uint64_t starts[CARD_RUNS], lengths[CARD_RUNS];
 static gpt_partition map = {.part_type_guid = {1, 2, 3, {4}}};
 static gpt_header header, backup;
 static volatile uint32_t number;
@@ -43,6 +44,7 @@ static void next_used(void) { number = card_next_used(img, LEN, BLOCK, 64).numbe
 static void read_slot(void) { number = card_read_slot(img, LEN, BLOCK, 64).number; }
 static void nth_used(void) { number = card_nth_used(img, LEN, BLOCK, 100).number; }
 static void list(void) { number = card_list(img, LEN, BLOCK, (uint8_t *)rows, sizeof rows).number; }
+static void free_runs(void) { number = card_free_runs(img, LEN, BLOCK, starts, CARD_RUNS, lengths, CARD_RUNS).number; }
 static void crc32(void) { number = gpt_crc32(img, LEN) == 0; }
 static void crc32_next(void) { number = gpt_crc32_next(1, img, LEN) == 0; }
 static void read_primary(void) { number = gpt_read_primary_header(img, LEN, BLOCK).number; }
@@ -90,7 +92,7 @@ typedef struct kind {
 } kind;
 #define KIND(call) {#call, call}
 static const kind kinds[] = {
-    KIND(lay), KIND(check), KIND(put), KIND(clear), KIND(payload), KIND(count_used), KIND(next_used), KIND(read_slot), KIND(nth_used), KIND(list),
+    KIND(lay), KIND(check), KIND(put), KIND(clear), KIND(payload), KIND(count_used), KIND(next_used), KIND(read_slot), KIND(nth_used), KIND(list), KIND(free_runs),
     KIND(crc32), KIND(crc32_next), KIND(read_primary), KIND(read_backup), KIND(find_backup), KIND(parts_sum), KIND(slot_sum), KIND(write_primary),
     KIND(write_backup), KIND(build), KIND(build_new), KIND(from_bytes), KIND(to_bytes), KIND(is_used), KIND(sectors), KIND(bytes), KIND(bytes_start),
     KIND(write_entry), KIND(zero_entries), KIND(read_partition), KIND(count_partitions), KIND(next_partition), KIND(read_partitions),

@@ -1,6 +1,6 @@
 #!/usr/bin/env python3
-"""Runs target/bin/lister on cards of the independent maker and on what it must refuse, and compares all that it prints with document 01's words.
-Then runs it, sums and sample with input and output that fail: that is said on standard error, and is never a verdict.
+"""Runs target/bin/lister on cards of the independent maker and on what it must refuse, and compares all that it prints with document 01's words; and free_ground
+likewise with document 02's 1/13, in the lister's form. Then runs both, sums and sample with input and output that fail: that is said on standard error, and is never a verdict.
 And sums on input of any length, cut in any way."""
 import os
 import subprocess
@@ -46,9 +46,25 @@ CASES = [
 ]
 
 
+FREE_HEAD = "first last blocks\n"
+FREE = [
+    ("document 01's example", ONE, FREE_HEAD + "runs 0\n"),
+    ("no slot used", at_slots(68, {}), FREE_HEAD + "34 34 1\nruns 1\n"),
+    ("holes at both ends and in the middle", at_slots(128, {1: (60, 69), 2: (36, 49)}), FREE_HEAD + "34 35 2\n50 59 10\n70 94 25\nruns 3\n"),
+    ("slots side by side", at_slots(128, {1: (35, 60), 2: (61, 93)}), FREE_HEAD + "34 34 1\n94 94 1\nruns 2\n"),
+    ("every other block", at_slots(128, {s: (33 + 2 * s, 33 + 2 * s) for s in range(1, 31)}), FREE_HEAD + "".join(f"{b} {b} 1\n" for b in range(34, 95, 2)) + "runs 31\n"),
+    ("bytes after the last whole block", at_slots(68, {}) + bytes(511), FREE_HEAD + "34 34 1\nruns 1\n"),
+    ("one byte too many", bytes(65537), "too long\n"),
+    ("nothing", b"", "refused 8\n"),
+    ("67 blocks", bytes(67 * 512), "refused 10\n"),
+    ("two slots on one block", at_slots(68, {1: (34, 34), 2: (34, 34)}), "refused 16\n"),
+]
+HOLES = make_card.CARDS["free_ground"]()
+FREED = FREE_HEAD + "runs 0\n"
 LISTED = HEAD + "1 34 34 1\nused 1\n"
 USAGE = {
     "lister": "usage: lister < IMAGE (blocks of 512 bytes, 65,536 bytes at most; the exit status is always 0, so read what is printed)\n",
+    "free_ground": "usage: free_ground < IMAGE (blocks of 512 bytes, 65,536 bytes at most; the exit status is always 0, so read what is printed)\n",
     "sums": "usage: sums < BYTES (any number of them; the exit status is always 0, so read what is printed)\n",
     "sample": "usage: sample > IMAGE (65,536 bytes; the exit status is always 0, so read what is printed on standard error)\n",
 }
@@ -130,6 +146,7 @@ def failures():
     sums = vectors + "cbf43926 9 bytes of standard input\n"
     runs = {
         "lister": inputs("lister", "") + slow("lister", ONE, LISTED) + outputs("lister", ONE, LISTED) + arguments("lister"),
+        "free_ground": inputs("free_ground", "") + slow("free_ground", ONE, FREED) + outputs("free_ground", HOLES, stored("free_ground")) + arguments("free_ground"),
         "sums": inputs("sums", vectors) + slow("sums", text, sums) + long_inputs(vectors) + outputs("sums", text, sums) + arguments("sums"),
         "sample": outputs("sample", b"", stored("sample")) + arguments("sample") + [
             ("closed input, which it does not read", (stored("sample"), "", 0), lambda: failing.closed_input("sample")),
@@ -145,18 +162,18 @@ def shown(text):
 
 def main():
     wrong = 0
-    for what, image, want in CASES:
-        got = subprocess.run([os.path.join(failing.BIN, "lister")], input=image, capture_output=True).stdout.decode()
+    for program, what, image, want in [("lister", *case) for case in CASES] + [("free_ground", *case) for case in FREE]:
+        got = subprocess.run([os.path.join(failing.BIN, program)], input=image, capture_output=True).stdout.decode()
         if got != want:
             wrong += 1
-            print(f"lister: {what}: printed {got!r}, not {want!r}")
+            print(f"{program}: {what}: printed {got!r}, not {want!r}")
     runs = failures()
     for program, what, want, start in runs:
         got = start()
         if got != want:
             wrong += 1
             print(f"{program}: {what}: wrote {shown(got[0])}, said {shown(got[1])}, status {got[2]}; not {shown(want[0])}, {shown(want[1])}, {want[2]}")
-    print(f"lister: {len(CASES)} inputs, and {len(runs)} runs of lister, sums and sample with input, output or arguments that fail, and of sums on long input; {wrong} wrong")
+    print(f"lister: {len(CASES)} inputs, free_ground: {len(FREE)}, and {len(runs)} runs of lister, free_ground, sums and sample with input, output or arguments that fail, and of sums on long input; {wrong} wrong")
     return 1 if wrong else 0
 
 

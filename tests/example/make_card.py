@@ -57,6 +57,7 @@ def card(blocks, size, entries, fill=0, after=0):
 
 CARDS = {
     "lister": lambda: card(68, 512, [entry(1, 34, 34, "map")]),
+    "free_ground": lambda: card(128, 512, [entry(1, 60, 69, "roads"), entry(2, 36, 49, "map")]),
     "sample": lambda: card(128, 512, [entry(1, 34, 65, "map 2026-11-15"), entry(2, 66, 85, "roads"), entry(3, 86, 94, "notes")]),
 }
 

@@ -188,6 +188,25 @@ def list_call(draw, image, b):
     return draw.block_size(b), rows(draw, model.CALLS["card_count_used"](image, b)[1][0])
 
 
+def number_row(draw, count):
+    """A lent row of 64-bit numbers: exact, one place short or longer, or of any length."""
+    places = draw.pick((count, count, count, count - 1, count + 1, count + 2 + draw.below(9), 129, draw.below(12)))
+    return draw.data(8 * max(places, 0))
+
+
+def runs_call(draw, image, b):
+    """A block size and two lent rows for the free ground; at times both are long enough."""
+    count = len(runs_of(images.free_blocks(image, b)))
+    if draw.chance(40):
+        return draw.block_size(b), draw.data(8 * (count + draw.below(3))), draw.data(8 * (count + draw.below(3)))
+    return draw.block_size(b), number_row(draw, count), number_row(draw, count)
+
+
+def runs_of(blocks):
+    """The blocks before which none stands in an ascending list."""
+    return [block for before, block in zip([None, *blocks], blocks) if before != block - 1]
+
+
 def size_only(draw, image, b):
     """A block size alone."""
     return (draw.block_size(b),)
@@ -214,6 +233,7 @@ ON_IMAGE = {
     "card_read_slot": size_and_slot,
     "card_nth_used": lambda draw, image, b: (draw.block_size(b), draw.number(32, [0, len(images.used_blocks(image, b))])),
     "card_list": list_call,
+    "card_free_runs": runs_call,
     "gpt_read_primary_header": size_only,
     "gpt_read_backup_header": size_only,
     "gpt_partentry_checksum": array_call,

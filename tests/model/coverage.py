@@ -15,6 +15,7 @@ NUMBERS = {
     "card_read_slot": CHECK | {18},
     "card_nth_used": CHECK,
     "card_list": CHECK | {15},
+    "card_free_runs": CHECK | {15},
     "gpt_crc32": {0},
     "gpt_crc32_next": {0},
     "gpt_read_primary_header": {0, 1, 2, 4, 5},
@@ -87,6 +88,7 @@ BUILDS = {(3, "count times size"), (10, "backup too early"), (10, "first above l
 STEPS = {
     "card_check": CHECK_STEPS,
     "card_put": CHECK_STEPS | PUT_STEPS,
+    "card_free_runs": {(15, "starts"), (15, "lengths")},
     "gpt_slot_sum": {(2, "was"), (2, "is")},
     "gpt_write_primary": WRITES,
     "gpt_write_backup": WRITES,

@@ -76,6 +76,7 @@ def checked_calls(slot, held):
         "card_read_slot": (B, slot),
         "card_nth_used": (B, 0),
         "card_list": (B, bytes(128 * entries.ROW)),
+        "card_free_runs": (B, bytes(8 * 129), bytes(8 * 129)),
     }
 
 

@@ -13,6 +13,8 @@ from units import NOWHERE
 
 GUARD = b"\xa5" * 32
 LENT = "a lent slice: a pointer, then a length"
+ROW_LENT = "a lent row of 64-bit numbers: a pointer, then a count"
+LENT_KINDS = {LENT: (c_uint8, 1), ROW_LENT: (c_uint64, 8)}
 SHAPES = {}
 
 
@@ -170,6 +172,7 @@ DECLARED = {
     "card_read_slot": (CARD_SLOT_READ, LENT, c_uint64, c_uint32),
     "card_nth_used": (CARD_USED_READ, LENT, c_uint64, c_uint32),
     "card_list": (CARD_COUNT, LENT, c_uint64, LENT),
+    "card_free_runs": (CARD_COUNT, LENT, c_uint64, ROW_LENT, ROW_LENT),
     "gpt_crc32": (c_uint32, LENT),
     "gpt_crc32_next": (c_uint32, c_uint32, LENT),
     "gpt_read_primary_header": (HEADER_READ, LENT, c_uint64),
@@ -215,17 +218,22 @@ DECLARED = {
 
 
 class Lent:
-    """A copy of some bytes with guard bytes on both sides, at an address that need not be even."""
+    """A copy of some bytes with guard bytes on both sides, at an address that need not be even, or at one for 64-bit numbers."""
 
-    def __init__(self, data):
-        self.front = len(GUARD) + len(data) % 7
+    def __init__(self, data, kind):
+        self.item, self.size = LENT_KINDS[kind]
+        self.count = len(data) // self.size
+        odd = len(data) % 7 if self.size == 1 else 0
+        self.front = len(GUARD) + odd
         self.end = self.front + len(data)
-        self.memory = bytearray(GUARD + GUARD[: len(data) % 7] + data + GUARD)
+        self.memory = bytearray(GUARD + GUARD[:odd] + data + GUARD)
         self.whole = (c_uint8 * len(self.memory)).from_buffer(self.memory)
+        if self.size > 1 and ctypes.addressof(self.whole) % self.size:
+            raise LayoutError("a row of numbers is not aligned")
 
     def pointer(self):
         """The address of the first lent byte."""
-        return ctypes.cast(ctypes.addressof(self.whole) + self.front, POINTER(c_uint8))
+        return ctypes.cast(ctypes.addressof(self.whole) + self.front, POINTER(self.item))
 
     def content(self):
         """The lent bytes as they are now; a changed guard byte is an error."""
@@ -282,7 +290,7 @@ def answered(result, value):
 
 def bind(function, result, *kinds):
     """One call of the library with the model's arguments and answer."""
-    slices = [[POINTER(c_uint8), c_size_t] if kind is LENT else [kind] for kind in kinds]
+    slices = [[POINTER(LENT_KINDS[kind][0]), c_size_t] if kind in LENT_KINDS else [kind] for kind in kinds]
     function.argtypes = [kind for kinds_here in slices for kind in kinds_here]
     function.restype = result
 
@@ -291,9 +299,9 @@ def bind(function, result, *kinds):
             raise TypeError(f"{len(kinds)} arguments are due")
         lent, given = [], []
         for kind, arg in zip(kinds, args):
-            if kind is LENT:
-                lent.append(Lent(bytes(arg)))
-                given += [lent[-1].pointer(), len(arg)]
+            if kind in LENT_KINDS:
+                lent.append(Lent(bytes(arg), kind))
+                given += [lent[-1].pointer(), lent[-1].count]
             else:
                 given.append(native(kind, arg))
         number, values, where = answered(result, function(*given))

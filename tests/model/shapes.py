@@ -39,7 +39,7 @@ def wrong_calls():
     """Declared calls whose arguments, lent slices or fields beside a refusal are not those of the model's call."""
     for name, (result, *kinds) in library.DECLARED.items():
         call = model.CALLS[name]
-        lent = tuple(i for i, kind in enumerate(kinds) if kind is library.LENT)
+        lent = tuple(i for i, kind in enumerate(kinds) if kind in library.LENT_KINDS)
         if len(inspect.signature(call).parameters) != len(kinds) or lent != call.lent:
             yield f"{name}: its arguments are not the model's"
         if library.has_number(result) and library.answered(result, result()) != (0, call.zero, NOWHERE):

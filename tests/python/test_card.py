@@ -161,6 +161,17 @@ class ReadOnly(unittest.TestCase):
             card.check(data, 512)
             self.assertEqual(card.listing(data, 512), [card.Entry(3, record(40, 41))])
 
+    def test_free_ground_is_ranges_of_blocks(self):
+        image = filled()
+        self.assertEqual(card.free_runs(bytes(image), 512), [range(34, 40), range(42, 67)])
+        card.put(image, 512, 1, record(34, 39, guid=uuid.UUID(int=1)))
+        self.assertEqual(card.free_runs(image, 512), [range(42, 67)])
+        card.put(image, 512, 2, record(42, 66, guid=uuid.UUID(int=2)))
+        self.assertEqual(card.free_runs(image, 512), [])
+        with self.assertRaises(card.Refused) as refused:
+            card.free_runs(image[:-512], 512)
+        self.assertEqual((refused.exception.number, refused.exception.place), (16, card.FRONT))
+
     def test_bytes_are_not_written(self):
         image = bytes(filled())
         before = bytes(bytearray(image))

@@ -205,6 +205,13 @@ static uint32_t do_list(uint64_t *state) {
     return card_list(image, LEN, BLOCK, lent(row_piece, len), len).number;
 }
 
+/* Both rows end where the guarded bytes do. */
+static uint32_t do_free_runs(uint64_t *state) {
+    size_t n = dice(state) % 2 ? 2 : CARD_RUNS;
+    uint64_t *rows = (uint64_t *)(void *)lent(row_piece, 2 * n * sizeof(uint64_t));
+    return card_free_runs(image, LEN, BLOCK, rows, n, rows + n, n).number;
+}
+
 static const gpt_header *some_header(uint64_t *state) { return dice(state) % 2 ? &few_header : &full_header; }
 
 static uint32_t do_array_rows(uint64_t *state) {
@@ -224,6 +231,7 @@ typedef struct kind {
 static const kind kinds[] = {
     {"card_write_payload", do_payload},
     {"card_list", do_list},
+    {"card_free_runs", do_free_runs},
     {"card_put", do_put},
     {"card_clear", do_clear},
     {"card_check", do_check},

@@ -20,6 +20,7 @@ use Rattle.tables.specs.Check.{check, plainCheck, slotCheck, badSlot, checkAnsw
 use Rattle.tables.proofs.Dropped.{drop-check}
 use Rattle.listing.specs.Listing.{Listed, presentSlots, countAnswer, nextAnswer, nthAnswer, slotRead, listingCheck}
 use Rattle.listing.specs.LentRow.{listingRead}
+use Rattle.ground.specs.Answers.{runsOf, rowsCheck, groundCheck, groundOutcome, settleRows}
 use Rattle.card.specs.Calls.{recordCheck, firstOverlap, overlapCheck, twinCheck, flagCheck, entryCheck, putCheck, putBytes, putAt, putOutcome, clearAt, clearOutcome, slotEntry, usedCheck, partitionBytes, payloadCheck, payloadAt, payloadOutcome}
 
 -- ---- the calls that begin with the check
@@ -34,6 +35,7 @@ pub data Asked : Type 0 where
   nth : ℕ → Asked
   slot : ℕ → Asked
   listed : ℕ → Asked
+  runs : List ℕ → List ℕ → Asked
 
 -- what each answers where it accepts
 abbrev pub Value : Asked → Type 0
@@ -46,6 +48,7 @@ Value (next s) = List ℕ
 Value (nth k) = List Listed
 Value (slot s) = Found
 Value (listed m) = List Entry
+Value (runs ss ls) = ℕ
 
 -- its answer with the place, as its contract has it. Both forms of the listing have the last, for a row or for bytes of m rows
 abbrev pub answerTo : (q : Asked) → ℕ → List ℕ → Answer (Value q)
@@ -58,6 +61,7 @@ answerTo (next s) B xs = nextAnswer B xs s
 answerTo (nth k) B xs = nthAnswer B xs k
 answerTo (slot s) B xs = slotRead B xs s
 answerTo (listed m) B xs = listingRead B xs m
+answerTo (runs ss ls) B xs = groundOutcome B xs ss ls .answer
 
 -- its tests after the check, which name no place
 abbrev pub rest : Asked → ℕ → ℕ → Tables → Why
@@ -73,8 +77,9 @@ rest (next s) B n t = fine
 rest (nth k) B n t = fine
 rest (slot s) B n t = when (badSlot s) (plain 18)
 rest (listed m) B n t = when (ltb m (length (presentSlots t))) (plain 15)
+rest (runs ss ls) B n t = rowsCheck (length ss) (length ls) (length (runsOf B n t))
 
--- the old answer that would give v: document 01's check, and then those tests
+-- the old answer that would give v: the check before 5/13, and then those tests
 abbrev pub oldAnswer : (q : Asked) → ℕ → List ℕ → Value q → Answer (Value q)
 oldAnswer q B xs v = judged (orElse (plainCheck B (length xs) (tables B xs)) (rest q B (length xs) (tables B xs))) v
 
@@ -88,7 +93,7 @@ else-assoc a b c = by (a .number) refl
     by zero e = refl
     by (suc k) e = rw e
 
-dropped-judged : {A : Type 0} (w : Why) (v : A) → plainly (judged w v) ≡ judged (dropped w) v
+pub dropped-judged : {A : Type 0} (w : Why) (v : A) → plainly (judged w v) ≡ judged (dropped w) v
 unfolding judged
 dropped-judged {A} w v = by (w .number)
   where
@@ -127,6 +132,7 @@ same-entry B n arr s e reserved =
     (same-else (when (ltb twin 128) (ofSlot 25 (twin + 1))) _ (same-when (ltb twin 128) _ refl) (same-when (not (eqb reserved 0)) _ refl)))
 
 same-rest : (q : Asked) (B n : ℕ) (t : Tables) → dropped (rest q B n t) ≡ rest q B n t
+unfolding rowsCheck
 same-rest checked B n t = refl
 same-rest (put s p) B n t = same-entry B n (t .front .array) s (putBytes p) (p .flags .reserved)
 same-rest (cleared s) B n t = same-when (badSlot s) _ refl
@@ -138,6 +144,7 @@ same-rest (next s) B n t = refl
 same-rest (nth k) B n t = refl
 same-rest (slot s) B n t = same-when (badSlot s) _ refl
 same-rest (listed m) B n t = same-when (ltb m (length (presentSlots t))) _ refl
+same-rest (runs ss ls) B n t = same-when (ltb (length ss) (length (runsOf B n t)) || ltb (length ls) (length (runsOf B n t))) _ refl
 
 -- ---- the law
 
@@ -147,7 +154,7 @@ record Says (q : Asked) (B : ℕ) (xs : List ℕ) : Type 0 where
   says : answerTo q B xs ≡ judged (orElse (check B (length xs) (tables B xs)) (rest q B (length xs) (tables B xs))) value
 
 says-for : (q : Asked) (B : ℕ) (xs : List ℕ) → Says q B xs
-unfolding putAt putCheck clearAt slotCheck payloadAt payloadCheck usedCheck listingRead listingCheck settle
+unfolding putAt putCheck clearAt slotCheck payloadAt payloadCheck usedCheck listingRead listingCheck settle groundOutcome groundCheck settleRows
 says-for checked B xs = record { value = _; says = judged-fine (check B (length xs) (tables B xs)) _ }
 says-for (put s p) B xs = record { value = _; says = refl }
 says-for (cleared s) B xs = record { value = _; says = refl }
@@ -162,6 +169,7 @@ says-for (next s) B xs = record { value = _; says = judged-fine (check B (length
 says-for (nth k) B xs = record { value = _; says = judged-fine (check B (length xs) (tables B xs)) _ }
 says-for (slot s) B xs = record { value = _; says = refl }
 says-for (listed m) B xs = record { value = _; says = refl }
+says-for (runs ss ls) B xs = record { value = _; says = refl }
 
 -- dropping the place from any of these answers gives the old one
 pub record Drops (q : Asked) (B : ℕ) (xs : List ℕ) : Type 0 where

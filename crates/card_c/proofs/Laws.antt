@@ -11,8 +11,9 @@ use Rattle.rows.specs.declared.Entry.{Entry}
 use Rattle.rows.specs.declared.inner.Plan.{Plan}
 use Rattle.rows.specs.Plans.{planned, roomed, plainly}
 use Rattle.rows.specs.RowBytes.{bytesOutcome}
+use Rattle.ground.specs.Answers.{Rows, RowsEnd}
 use Rattle.card_c.specs.declared.answers.CardAnswer.{CardAnswer}
-use Rattle.card_c.specs.Exports.{outcomeToC, crossed, aside, countToC, answered, entryParsed}
+use Rattle.card_c.specs.Exports.{outcomeToC, rowsToC, crossed, aside, countToC, answered, entryParsed}
 use Rattle.card_c.specs.CardExports.{whyToC, crossedAt, asideAt}
 
 module _ {A S : Type 0} (make : ℕ → A → S) (z : A) where
@@ -33,6 +34,10 @@ module _ {A S : Type 0} (make : ℕ → A → S) (z : A) where
 -- a call that ends in an outcome ends in the outcome so told
 pub told-ends : {A C : Type 0} (f : A → C) (o : Outcome A) {a : A} {r : C} {i : List ℕ} → Ends o a i → r ≡ f a → Ends (outcomeToC f o) r i
 told-ends f o e q = record { answer = q ∙ ap f (e .answer); image = e .image }
+
+-- and so does one that lends two rows
+pub told-rows : {A C : Type 0} (f : A → C) (o : Rows A) {a : A} {r : C} {s l : List ℕ} → RowsEnd o a s l → r ≡ f a → RowsEnd (rowsToC f o) r s l
+told-rows f o e q = record { answer = q ∙ ap f (e .answer); starts = e .starts; lengths = e .lengths }
 
 -- the same of the card calls, whose answers say the place
 module _ {A S : Type 0} (make : CardAnswer → A → S) (z : A) where

@@ -20,6 +20,7 @@ use Rattle.mbr.specs.Changing.{Changed}
 use Rattle.partition.specs.declared.Partition.{Partition}
 use Rattle.partition.specs.Array.{Found}
 use Rattle.partition.specs.Format.{entryAt, zeroPartition}
+use Rattle.ground.specs.Answers.{Rows}
 use Rattle.card_c.specs.declared.answers.GptStored.{GptStored}
 use Rattle.card_c.specs.declared.answers.GptCount.{GptCount}
 use Rattle.card_c.specs.declared.answers.GptNext.{GptNext}
@@ -42,6 +43,10 @@ use Rattle.card_c.specs.declared.mbrs.GptSignatureRead.{GptSignatureRead
 -- an outcome with its answer told in another way
 abbrev pub outcomeToC : {A C : Type 0} → (A → C) → Outcome A → Outcome C
 outcomeToC f o = gives (f (o .answer)) (o .image)
+
+-- the same of an answer and two rows
+abbrev pub rowsToC : {A C : Type 0} → (A → C) → Rows A → Rows C
+rowsToC f o = record { answer = f (o .answer); starts = o .starts; lengths = o .lengths }
 
 -- a struct made of the number and the value; beside a refusal stands the value z
 unfoldable pub crossed : {A S : Type 0} → (ℕ → A → S) → A → Answer A → S

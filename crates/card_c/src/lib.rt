@@ -5,5 +5,6 @@ mod answers; // answers.rt: the structs that come back, and how each answer beco
 mod building; // building.rt: the header builder
 mod cards; // cards.rt: the card calls
 mod entries; // entries.rt: partition entries
+mod grounds; // grounds.rt: the free ground
 mod headers; // headers.rt: headers and the check sum
 mod mbrs; // mbrs.rt: the protective MBR

@@ -1,5 +1,6 @@
-// Doors: the public calls of card once more, in one line each, under their own contracts word for word.
+// Doors: the public calls of card and ground once more, in one line each, under their own contracts word for word.
 // Nobody calls them. They are there to be changed: each edit under must-fail puts an impostor behind a door, and the door's contract must refuse it.
+use ground::RunCount;
 use listing::CardCount;
 use listing::CardNext;
 use listing::SlotRead;
@@ -21,6 +22,7 @@ ghost use Rattle.partition.specs.Array.{readingOf};
 ghost use Rattle.tables.specs.Check.{checkAnswer};
 ghost use Rattle.listing.specs.Listing.{countAnswer, nextAnswer, slotRead, nthAnswer};
 ghost use Rattle.listing.specs.Meanings.{cardCountMeans, cardNextMeans, slotMeans, usedMeans, nthReading};
+ghost use Rattle.ground.specs.Answers.{RowsEnd, runCountMeans, groundOutcome};
 ghost use Rattle.card.specs.Calls.{layOutcome, putOutcome, clearOutcome, payloadOutcome};
 
 pub fn lay(img: &mut [u8], b: u64, guid: Guid) -> CardVerdict
@@ -81,4 +83,10 @@ pub fn read_slot(img: &[u8], b: u64, slot: Slot) -> SlotRead
     ensures { λ r. ⌜ slotMeans r ≡ readingOf (slotRead b (now (img .entry)) (slot .0)) ⌝ }
 {
     card::read_slot(img, b, slot)
+}
+
+pub fn free_runs(img: &[u8], b: u64, starts: &mut [u64], lengths: &mut [u64]) -> RunCount
+    ensures { λ r. ⌜ RowsEnd (groundOutcome b (now (img .entry)) (now (starts .entry)) (now (lengths .entry))) (runCountMeans r) (now (starts .exit)) (now (lengths .exit)) ⌝ }
+{
+    ground::free_runs(img, b, starts, lengths)
 }

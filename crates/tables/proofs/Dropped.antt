@@ -1,4 +1,4 @@
--- Dropping the place that the check names gives document 01's check (document 02, 5/13). The tests of the room and of one table name nothing by themselves.
+-- Dropping the place that the check names gives the check before document 02, 5/13. The tests of the room and of one table name nothing by themselves.
 -- No contract cites this file. Assumes nothing.
 use mathlib.Core.Path.{_≡_, refl, ap, _∙_}
 use mathlib.Core.Bool.{Bool, true, false, not, _&&_}

@@ -69,7 +69,7 @@ check B n t =
     (orElse (within place.Back (tableCheck B n Back (t .back)))
     (tablesCheck B n t)))
 
--- document 01's check, which names no place. What the check says once its place is dropped is this (`drop-check` in proofs/Dropped)
+-- the check before 5/13, which names no place. What the check says once its place is dropped is this (`drop-check` in proofs/Dropped)
 unfoldable pub plainPair : ℕ → ℕ → List ℕ → List ℕ → List ℕ → List ℕ → Why
 plainPair B n g h x y =
     orElse (when (not (same g h && same x y)) (plain 17))

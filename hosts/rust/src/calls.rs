@@ -1,10 +1,13 @@
 //! The card calls: each is one call of the library, with its answer told as a `Result`.
 use crate::refusal::accepted;
 use crate::{ffi, Entry, Guid, Record, Refusal, Refused};
-use std::{fmt, iter::FusedIterator, mem::size_of_val, vec};
+use std::{fmt, iter::FusedIterator, mem::size_of_val, ops::RangeInclusive, vec};
 
 /// How many slots a card has.
 pub const SLOTS: u32 = 128;
+
+/// How many runs of free blocks a card has at most: one before, between and behind 128 used slots.
+const RUNS: usize = 129;
 
 /// The size of a block. A card has one size throughout.
 #[derive(Clone, Copy, Debug, PartialEq, Eq, Hash)]
@@ -106,6 +109,11 @@ impl<'image> Card<'image> {
         list(self.image, self.block_size)
     }
 
+    /// The free ground, ascending: see [`free_runs`].
+    pub fn free_runs(&self) -> Result<Vec<RangeInclusive<u64>>, Refused> {
+        free_runs(self.image, self.block_size)
+    }
+
     /// Runs the card check again: see [`check`].
     pub fn check(&self) -> Result<(), Refused> {
         check(self.image, self.block_size)
@@ -129,7 +137,7 @@ impl fmt::Debug for Card<'_> {
 }
 
 /// The card check, on an image that is only read: both tables are whole, laid out as [`Card::lay`] lays them, and say the same; each entry is unused
-/// or has usable blocks of its own. Block 0 is not read.
+/// or has usable blocks and a partition GUID of its own. Block 0 is not read.
 ///
 /// Refused by 8, 10; 4, 5, 16, 6 of the front table; 4, 5, 16, 6 of the back table; 17; 16.
 pub fn check(image: &[u8], block_size: BlockSize) -> Result<(), Refused> {
@@ -159,6 +167,18 @@ pub fn list(image: &[u8], block_size: BlockSize) -> Result<Listing, Refused> {
     accepted(answer.number, 0, answer.place, answer.differs)?;
     rows.truncate(answer.count as usize);
     Ok(Listing { rows: rows.into_iter() })
+}
+
+/// The free ground of a card: the maximal runs of usable blocks that no used slot has, ascending, each from its first block to its last.
+///
+/// Refused as [`check`] is.
+pub fn free_runs(image: &[u8], block_size: BlockSize) -> Result<Vec<RangeInclusive<u64>>, Refused> {
+    let (mut starts, mut lengths) = ([0; RUNS], [0; RUNS]);
+    let (b, first, count) = (block_size.bytes(), starts.as_mut_ptr(), lengths.as_mut_ptr());
+    // SAFETY: each pointer and length are those of one slice, not null also where it is empty; both rows are new, so they overlap neither each other nor `image`.
+    let answer = unsafe { ffi::card_free_runs(image.as_ptr(), image.len(), b, first, RUNS, count, RUNS) };
+    accepted(answer.number, 0, answer.place, answer.differs)?;
+    Ok(starts.into_iter().zip(lengths).take(answer.count as usize).map(|(first, blocks)| first..=first + (blocks - 1)).collect())
 }
 
 /// The sum of nothing, from which [`crc32_next`] starts a new sum.

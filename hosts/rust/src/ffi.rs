@@ -98,6 +98,7 @@ functions! {
     fn card_read_slot(img: *const u8, img_len: usize, b: u64, slot: u32) -> card_slot_read;
     fn card_nth_used(img: *const u8, img_len: usize, b: u64, k: u32) -> card_used_read;
     fn card_list(img: *const u8, img_len: usize, b: u64, out: *mut u8, out_len: usize) -> card_count;
+    fn card_free_runs(img: *const u8, img_len: usize, b: u64, starts: *mut u64, starts_len: usize, lengths: *mut u64, lengths_len: usize) -> card_count;
     fn gpt_crc32(bytes: *const u8, bytes_len: usize) -> u32;
     fn gpt_crc32_next(running: u32, bytes: *const u8, bytes_len: usize) -> u32;
     fn gpt_read_primary_header(img: *const u8, img_len: usize, b: u64) -> gpt_header_read;
@@ -177,6 +178,7 @@ mod tests {
             "size_t" => "usize",
             "uint8_t *" => "*mut u8",
             "const uint8_t *" => "*const u8",
+            "uint64_t *" => "*mut u64",
             of_the_header => of_the_header,
         };
         match name.split_once('[') {

@@ -40,7 +40,7 @@ mod refusal;
 #[path = "../tests/repository/mod.rs"]
 mod repository;
 
-pub use calls::{check, crc32_next, get, list, BlockSize, Card, Listing, FRESH, SLOTS};
+pub use calls::{check, crc32_next, free_runs, get, list, BlockSize, Card, Listing, FRESH, SLOTS};
 pub use guid::{Guid, GuidError};
 pub use record::{Entry, Flags, Name, NameError, Record};
 pub use refusal::{Place, Refusal, Refused};

@@ -79,7 +79,7 @@ refusals! {
     12 InvalidMBRLength: "the buffer is not one block long",
     13 InvalidMBRSignature: "bytes 510 and 511 are not 55 AA",
     14 InvalidPartitionLength: "the MBR record's buffer is not 16 bytes long",
-    15 NoRoom: "more entries are present than there is room for in what was lent",
+    15 NoRoom: "more entries or runs are there than there is room for in what was lent",
     16 WrongLayout: "the table is not laid out as a card's",
     17 Disagree: "the two tables differ",
     18 BadSlot: "there is no such slot or record",

@@ -1,5 +1,7 @@
 //! The card calls one by one: what they accept, each refusal that they can give, and that a refused call changes no byte.
-use card::{check, crc32_next, get, list, BlockSize, Card, Entry, Flags, Guid, GuidError, Name, NameError, Place, Record, Refusal, Refused, FRESH, SLOTS};
+use card::{
+    check, crc32_next, free_runs, get, list, BlockSize, Card, Entry, Flags, Guid, GuidError, Name, NameError, Place, Record, Refusal, Refused, FRESH, SLOTS,
+};
 use BlockSize::{B4096, B512};
 
 mod repository;
@@ -43,6 +45,7 @@ fn no_card(image: &mut [u8], size: BlockSize, refusal: impl Into<Refused>) {
     assert_eq!(check(image, size), Err(refusal));
     assert_eq!(get(image, size, 1), Err(refusal));
     assert_eq!(list(image, size).unwrap_err(), refusal);
+    assert_eq!(free_runs(image, size), Err(refusal));
     assert_eq!(Card::open(image, size).unwrap_err(), refusal);
     assert!(image == before);
 }
@@ -60,6 +63,35 @@ fn resum(image: &mut [u8], size: BlockSize, header: usize, array: usize) {
     image[at + 16..at + 20].fill(0);
     let own = crc32(&image[at..at + 92]);
     image[at + 16..at + 20].copy_from_slice(&own.to_le_bytes());
+}
+
+#[test]
+fn free_ground_is_what_no_slot_has() {
+    for (size, blocks, usable) in SMALLEST {
+        let mut image = laid(size, blocks + 9);
+        let mut card = Card::open(&mut image, size).unwrap();
+        assert_eq!(card.free_runs(), Ok(vec![usable..=usable + 9]));
+        card.put(7, &record(usable + 5, usable + 6, "b")).unwrap();
+        card.put(9, &record(usable + 1, usable + 3, "a")).unwrap();
+        assert_eq!(card.free_runs(), Ok(vec![usable..=usable, usable + 4..=usable + 4, usable + 7..=usable + 9]));
+        card.put(1, &record(usable + 4, usable + 4, "between")).unwrap();
+        card.put(2, &record(usable, usable, "first")).unwrap();
+        card.put(3, &record(usable + 7, usable + 9, "last")).unwrap();
+        assert_eq!(card.free_runs(), Ok(vec![]));
+    }
+}
+
+/// 128 slots with a free block before, between and behind them: the most runs that there can be.
+#[test]
+fn free_ground_has_at_most_129_runs() {
+    let mut image = laid(B512, 67 + 257);
+    let mut card = Card::open(&mut image, B512).unwrap();
+    for slot in 1..=SLOTS {
+        let block = 33 + 2 * u64::from(slot);
+        card.put(slot, &record(block, block, "map")).unwrap();
+    }
+    let runs: Vec<_> = (0..129).map(|k| 34 + 2 * k..=34 + 2 * k).collect();
+    assert_eq!(card.free_runs(), Ok(runs));
 }
 
 #[test]
