@@ -2,7 +2,8 @@
    protective MBR (gpt_..). The library is libcard.a or libcard.so, which `make lib` writes to target/lib; it is for x86-64.
 
    Every call takes every number and every image of bytes: it ends, and it accepts or refuses by a number from the table below. A refused
-   call changes no byte that was lent to it, and every field of its answer but the number, and the slot or the place that the number names, is zero.
+   call changes no byte that was lent to it, and every field of its answer but the number, and the slot or the place that the number names, is zero, but for a map that
+   comes back as it came.
 
    What a caller owes:
    - A lent slice is a pointer and then a length in bytes. The pointer points to so many bytes and is never null, also where the length is 0. A row of
@@ -69,7 +70,7 @@ enum card_number {
     CARD_EMPTY_SLOT = 23,              /* the slot is not used */
     CARD_PAST_PARTITION = 24,          /* the bytes pass the partition's end */
     CARD_TWIN_GUID = 25,               /* a partition GUID that another used slot has; the answer names the lowest such slot */
-    /* Of the numbers from 26 on a call gives 28 alone yet: each other one comes with its change request. */
+    /* Of the numbers from 26 on a call gives 28 and 33 alone yet: each other one comes with its change request. */
     CARD_WRONG_STAGE = 26,             /* the stage is not the next one of this update */
     CARD_NO_GOOD_COPY = 27,            /* neither table of the card can be read */
     CARD_RESERVED_FLAG = 28,           /* a flag that UEFI keeps reserved */
@@ -443,6 +444,59 @@ card_count card_list(const uint8_t *img, size_t img_len, uint64_t b, uint8_t *ou
    is the first block of run k and lengths[k] how many blocks it has. The places after the count stay. Both lengths are in numbers, not in bytes.
    The check's numbers, then 15 where either row has fewer places than there are runs. */
 card_count card_free_runs(const uint8_t *img, size_t img_len, uint64_t b, uint64_t *starts, size_t starts_len, uint64_t *lengths, size_t lengths_len);
+
+/* ---- the slot map: 128 bits beside the table, one for a used slot. It is a value: made from a card, handed to each put and clear and taken back from it. After any
+   such calls it is the map that card_map_make would make again, as long as nothing else changes the table. */
+
+/* Slot s has bit s - 1 of low, or bit s - 65 of high; it is 1 where the slot is used. */
+typedef struct card_slot_map {
+    uint64_t low;
+    uint64_t high;
+} card_slot_map;
+CARD_SIZE(card_slot_map, 16);
+CARD_AT(card_slot_map, low, 0);
+CARD_AT(card_slot_map, high, 8);
+
+/* place and differs as in a card_answer; the map beside a refusal is zero. */
+typedef struct card_map_made {
+    uint32_t number;
+    uint32_t place;
+    uint32_t differs;
+    card_slot_map map;
+} card_map_made;
+CARD_SIZE(card_map_made, 32);
+CARD_AT(card_map_made, number, 0);
+CARD_AT(card_map_made, place, 4);
+CARD_AT(card_map_made, differs, 8);
+CARD_AT(card_map_made, map, 16);
+
+/* The map beside a refusal is the one that was handed in. */
+typedef struct card_carried {
+    card_answer answer;
+    card_slot_map map;
+} card_carried;
+CARD_SIZE(card_carried, 32);
+CARD_AT(card_carried, answer, 0);
+CARD_AT(card_carried, map, 16);
+
+/* The map of a card.
+   The check's numbers. */
+card_map_made card_map_make(const uint8_t *img, size_t img_len, uint64_t b);
+
+/* card_put, and the map with the slot's bit set where it is accepted. Whether the map is this card's is not looked at.
+   As card_put. */
+card_carried card_map_put(uint8_t *img, size_t img_len, uint64_t b, uint32_t slot, gpt_partition partition, card_slot_map map);
+
+/* card_clear, and the map with the slot's bit cleared where it is accepted.
+   As card_clear. */
+card_carried card_map_clear(uint8_t *img, size_t img_len, uint64_t b, uint32_t slot, card_slot_map map);
+
+/* The lowest free slot of a map.
+   33. */
+gpt_next card_map_lowest_free(card_slot_map map);
+
+/* How many slots of a map are used. */
+uint32_t card_map_used(card_slot_map map);
 
 /* ---- the ported calls: the check sum and headers */
 

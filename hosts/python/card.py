@@ -1,6 +1,6 @@
-"""The card calls for Python, over libcard.so: lay, check, put, clear, write_payload, listing, free_runs; and crc32_next, the check sum of bytes that come in pieces.
+"""The card calls for Python, over libcard.so: lay, check, put, clear, write_payload, listing, free_runs; slot_map and what goes with it; and crc32_next, the check sum of bytes that come in pieces.
 
-An image is any writable buffer of contiguous bytes, such as a bytearray or an mmap; check, listing and free_runs take read-only ones too, such as bytes. No call
+An image is any writable buffer of contiguous bytes, such as a bytearray or an mmap; check, listing, free_runs and slot_map take read-only ones too, such as bytes. No call
 copies the image. A call that is refused raises Refused, with the number of the refusal (NUMBERS), and changes nothing.
 
 The interpreter's lock is kept during a call, so that no other thread of Python writes the image meanwhile. Other processes must not do so either.
@@ -38,6 +38,10 @@ card.Refused: refused 4, InvalidGptSignature: the back table's header does not b
 [range(34, 35)]
 >>> listing(image, 512), bytes(image[34 * 512:34 * 512 + 11])
 ([], b'north ridge')
+>>> beside = slot_map(image, 512)
+>>> slot, beside = put_lowest(image, 512, record, beside)
+>>> slot, beside.used(), beside.lowest_free(), beside == slot_map(image, 512)
+(1, 1, 2, True)
 >>> hex(crc32_next(crc32_next(FRESH, b"1234"), b"56789"))
 '0xcbf43926'
 
@@ -82,7 +86,7 @@ NUMBERS = {
     23: ("EmptySlot", "the slot is not used"),
     24: ("PastPartition", "the bytes pass the partition's end"),
     25: ("TwinGuid", "a partition GUID that another used slot has"),
-    # Of the numbers from 26 on a call gives 28 alone yet: each other one comes with its change request.
+    # Of the numbers from 26 on a call gives 28 and 33 alone yet: each other one comes with its change request.
     26: ("WrongStage", "the stage is not the next one of this update"),
     27: ("NoGoodCopy", "neither table of the card can be read"),
     28: ("ReservedFlag", "a flag that UEFI keeps reserved"),
@@ -176,6 +180,27 @@ class Entry:
     record: Record
 
 
+@dataclass(frozen=True)
+class SlotMap:
+    """128 bits beside a card's table, one for a used slot: slots 1 to 64 in `low`, least bit first, slots 65 to 128 in `high`. It is a value: slot_map makes
+    it from a card, and put_mapped and clear_mapped take one and give the next. It stays the card's map as long as nothing else changes the table."""
+
+    low: int
+    high: int
+
+    def lowest_free(self):
+        """The lowest free slot. 33."""
+        return _take(_lowest_free(_map(self))).slot
+
+    def used(self):
+        """How many slots are used."""
+        return _map_used(_map(self))
+
+
+class _Map(ctypes.Structure):
+    _fields_ = [("low", ctypes.c_uint64), ("high", ctypes.c_uint64)]
+
+
 class _Flags(ctypes.Structure):
     _fields_ = [("reserved", ctypes.c_uint64), ("owner", ctypes.c_uint16), ("required", ctypes.c_bool), ("no_block_io", ctypes.c_bool),
                 ("legacy_bootable", ctypes.c_bool)]
@@ -213,6 +238,18 @@ class _Count(ctypes.Structure):
     _fields_ = [("number", ctypes.c_uint32), ("count", ctypes.c_uint32), ("place", ctypes.c_uint32), ("differs", ctypes.c_uint32)]
 
 
+class _Next(ctypes.Structure):
+    _fields_ = [("number", ctypes.c_uint32), ("slot", ctypes.c_uint32)]
+
+
+class _Made(ctypes.Structure):
+    _fields_ = [("number", ctypes.c_uint32), ("place", ctypes.c_uint32), ("differs", ctypes.c_uint32), ("map", _Map)]
+
+
+class _Carried(ctypes.Structure):
+    _fields_ = [("answer", _Answer), ("map", _Map)]
+
+
 class _Row(ctypes.Structure):
     _fields_ = [("slot", ctypes.c_uint64), ("entry", _Entry)]
 
@@ -225,7 +262,8 @@ class _Buffer(ctypes.Structure):
                 ("suboffsets", ctypes.c_void_p), ("internal", ctypes.c_void_p)]
 
 
-for _struct, _size in ((_Flags, 16), (_Bits, 16), (_Record, 136), (_Entry, 128), (_Guid, 16), (_Answer, 16), (_Stored, 24), (_Count, 16), (_Row, 136), (_Buffer, 80)):
+for _struct, _size in ((_Flags, 16), (_Bits, 16), (_Record, 136), (_Entry, 128), (_Guid, 16), (_Answer, 16), (_Stored, 24), (_Count, 16), (_Next, 8), (_Row, 136), (_Map, 16),
+                       (_Made, 32), (_Carried, 32), (_Buffer, 80)):
     if ctypes.sizeof(_struct) != _size:
         raise ImportError(f"{_struct.__name__} has {ctypes.sizeof(_struct)} bytes here, and not {_size}: this module is for x86-64")
 
@@ -274,6 +312,11 @@ _clear = _declare("card_clear", _Answer, *_slice, ctypes.c_uint64, ctypes.c_uint
 _payload = _declare("card_write_payload", _Stored, *_slice, ctypes.c_uint64, ctypes.c_uint32, ctypes.c_size_t, *_slice)
 _list = _declare("card_list", _Count, *_slice, ctypes.c_uint64, *_slice)
 _free_runs = _declare("card_free_runs", _Count, *_slice, ctypes.c_uint64, *_slice, *_slice)
+_make_map = _declare("card_map_make", _Made, *_slice, ctypes.c_uint64)
+_put_mapped = _declare("card_map_put", _Carried, *_slice, ctypes.c_uint64, ctypes.c_uint32, _Record, _Map)
+_clear_mapped = _declare("card_map_clear", _Carried, *_slice, ctypes.c_uint64, ctypes.c_uint32, _Map)
+_lowest_free = _declare("card_map_lowest_free", _Next, _Map)
+_map_used = _declare("card_map_used", ctypes.c_uint32, _Map)
 _flags_of = _declare("gpt_flags_of", _Flags, ctypes.c_uint64)
 _flags_bits = _declare("gpt_flags_bits", _Bits, _Flags)
 _sum_next = _declare("gpt_crc32_next", ctypes.c_uint32, ctypes.c_uint32, *_slice)
@@ -348,6 +391,16 @@ def _read(e):
     return Record(uuid.UUID(bytes_le=bytes(e.type)), uuid.UUID(bytes_le=bytes(e.guid)), e.first, e.last, Flags.of_bits(e.flags), text)
 
 
+def _map(m):
+    return _Map(_number(m.low, 64, "a word of the map"), _number(m.high, 64, "a word of the map"))
+
+
+def _carried(answer):
+    """The map after an accepted call; after a refused one the caller still has the one that it handed in."""
+    _take(answer.answer)
+    return SlotMap(answer.map.low, answer.map.high)
+
+
 def _blocks(block_size):
     return _number(block_size, 64, "the block size")
 
@@ -404,6 +457,31 @@ def free_runs(image, block_size):
     with _lent(image) as lent:
         n = _take(_free_runs(*lent, _blocks(block_size), ctypes.byref(starts), RUNS, ctypes.byref(lengths), RUNS)).count
     return [range(first, first + blocks) for first, blocks in zip(starts[:n], lengths[:n])]
+
+
+def slot_map(image, block_size):
+    """The slot map of a card. The check's numbers."""
+    with _lent(image) as lent:
+        made = _take(_make_map(*lent, _blocks(block_size)))
+    return SlotMap(made.map.low, made.map.high)
+
+
+def put_mapped(image, block_size, slot, record, beside):
+    """As put, and gives the slot map `beside` with the slot's bit set."""
+    with _lent(image, written=True) as lent:
+        return _carried(_put_mapped(*lent, _blocks(block_size), _number(slot, 32, "the slot"), _record(record), _map(beside)))
+
+
+def clear_mapped(image, block_size, slot, beside):
+    """As clear, and gives the slot map `beside` with the slot's bit cleared."""
+    with _lent(image, written=True) as lent:
+        return _carried(_clear_mapped(*lent, _blocks(block_size), _number(slot, 32, "the slot"), _map(beside)))
+
+
+def put_lowest(image, block_size, record, beside):
+    """Puts a record into the lowest slot that is free in the slot map `beside`; gives the slot and the map after it. 33, then as put."""
+    slot = beside.lowest_free()
+    return slot, put_mapped(image, block_size, slot, record, beside)
 
 
 def crc32_next(running, data):

@@ -216,6 +216,7 @@ static void flags(void) {
 static void all_at(uint32_t number, uint32_t place, uint32_t differs) {
     uint8_t rows[136];
     uint64_t starts[1], lengths[1];
+    const card_slot_map none = {0, 0};
     card_answer a = card_check(img, LEN, BLOCK);
     SAME(a.number, number);
     SAME(a.slot, 0);
@@ -229,6 +230,9 @@ static void all_at(uint32_t number, uint32_t place, uint32_t differs) {
     AT(card_nth_used(img, LEN, BLOCK, 0), place, differs);
     AT(card_list(img, LEN, BLOCK, rows, sizeof rows), place, differs);
     AT(card_free_runs(img, LEN, BLOCK, starts, 1, lengths, 1), place, differs);
+    AT(card_map_make(img, LEN, BLOCK), place, differs);
+    AT(card_map_put(img, LEN, BLOCK, 1, some(34, 34), none).answer, place, differs);
+    AT(card_map_clear(img, LEN, BLOCK, 1, none).answer, place, differs);
 }
 
 /* One array or header changed, its sums made right by the ported calls where that is asked for: which table, and where. The image is given back as it was. */
@@ -352,6 +356,42 @@ static void free_ground(void) {
     SAME(starts[1], 2);
     SAME(lengths[1], 5);
     SAME(card_put(img, LEN, BLOCK, 128, some(34, 34)).number, 0);
+    KEPT();
+}
+
+/* The map of slots 7 and 128, carried through a clear and a put of slot 128, and through refused ones. */
+static void maps(void) {
+    const card_slot_map both = {64, (uint64_t)1 << 63}, all = {UINT64_MAX, UINT64_MAX};
+    memcpy(before, img, LEN);
+    card_map_made made = card_map_make(img, LEN, BLOCK);
+    SAME(made.number, 0);
+    BYTES(&made.map, &both, sizeof both);
+    made = card_map_make(img, 1000, BLOCK);
+    SAME(made.number, CARD_TO_SMALL_FOR_BACKUP);
+    ZEROS(&made.map, sizeof made.map);
+    SAME(card_map_used(both), 2);
+    SAME(card_map_lowest_free(both).slot, 1);
+    SAME(card_map_lowest_free((card_slot_map){UINT64_MAX, 1}).slot, 66);
+    SAME(card_map_lowest_free((card_slot_map){UINT64_MAX, UINT64_MAX >> 1}).slot, 128);
+    SAME(card_map_lowest_free(all).number, CARD_TABLE_FULL);
+    SAME(card_map_lowest_free(all).slot, 0);
+    SAME(card_map_used(all), 128);
+    card_carried c = card_map_put(img, LEN, BLOCK, 2, some(34, 35), both);
+    SAME(c.answer.number, CARD_OVERLAP);
+    SAME(c.answer.slot, 7);
+    BYTES(&c.map, &both, sizeof both);
+    c = card_map_clear(img, LEN, BLOCK, 0, both);
+    SAME(c.answer.number, CARD_BAD_SLOT);
+    BYTES(&c.map, &both, sizeof both);
+    KEPT();
+    c = card_map_clear(img, LEN, BLOCK, 128, both);
+    SAME(c.answer.number, 0);
+    SAME(c.map.low, 64);
+    SAME(c.map.high, 0);
+    c = card_map_put(img, LEN, BLOCK, 128, some(34, 34), c.map);
+    SAME(c.answer.number, 0);
+    SAME(c.answer.slot, 0);
+    BYTES(&c.map, &both, sizeof both);
     KEPT();
 }
 
@@ -740,6 +780,7 @@ int main(void) {
     reads();
     lists();
     free_ground();
+    maps();
     payloads();
     headers();
     sums();

@@ -45,6 +45,11 @@ static void read_slot(void) { number = card_read_slot(img, LEN, BLOCK, 64).numbe
 static void nth_used(void) { number = card_nth_used(img, LEN, BLOCK, 100).number; }
 static void list(void) { number = card_list(img, LEN, BLOCK, (uint8_t *)rows, sizeof rows).number; }
 static void free_runs(void) { number = card_free_runs(img, LEN, BLOCK, starts, CARD_RUNS, lengths, CARD_RUNS).number; }
+static void map_make(void) { number = card_map_make(img, LEN, BLOCK).number; }
+static void map_put(void) { number = card_map_put(img, LEN, BLOCK, 64, in_block(162 - 64), (card_slot_map){0, 0}).answer.number; }
+static void map_clear(void) { number = card_map_clear(img, LEN, BLOCK, 64, (card_slot_map){0, 0}).answer.number; }
+static void map_lowest_free(void) { number = card_map_lowest_free((card_slot_map){1, 0}).number; }
+static void map_used(void) { number = card_map_used((card_slot_map){0, 0}); }
 static void crc32(void) { number = gpt_crc32(img, LEN) == 0; }
 static void crc32_next(void) { number = gpt_crc32_next(1, img, LEN) == 0; }
 static void read_primary(void) { number = gpt_read_primary_header(img, LEN, BLOCK).number; }
@@ -93,6 +98,7 @@ typedef struct kind {
 #define KIND(call) {#call, call}
 static const kind kinds[] = {
     KIND(lay), KIND(check), KIND(put), KIND(clear), KIND(payload), KIND(count_used), KIND(next_used), KIND(read_slot), KIND(nth_used), KIND(list), KIND(free_runs),
+    KIND(map_make), KIND(map_put), KIND(map_clear), KIND(map_lowest_free), KIND(map_used),
     KIND(crc32), KIND(crc32_next), KIND(read_primary), KIND(read_backup), KIND(find_backup), KIND(parts_sum), KIND(slot_sum), KIND(write_primary),
     KIND(write_backup), KIND(build), KIND(build_new), KIND(from_bytes), KIND(to_bytes), KIND(is_used), KIND(sectors), KIND(bytes), KIND(bytes_start),
     KIND(write_entry), KIND(zero_entries), KIND(read_partition), KIND(count_partitions), KIND(next_partition), KIND(read_partitions),

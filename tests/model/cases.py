@@ -4,11 +4,12 @@ import struct
 
 import headers
 import images
+import maps
 import model
 from draws import BAD_BLOCK_SIZES, ENTRY_SIZES, SLOTS
 from entries import ROW, Flags, record_from
 from sums import FRESH, crc32
-from units import NIL
+from units import ALL_64, NIL
 
 
 def slot(draw, image, b):
@@ -207,6 +208,28 @@ def runs_of(blocks):
     return [block for before, block in zip([None, *blocks], blocks) if before != block - 1]
 
 
+def some_map(draw):
+    """A slot map: all used but for some slots, few used, or any words."""
+    some = {1 + draw.below(128) for _ in range(draw.below(4))} | set(draw.pick(((), (64,), (65,), (128,), (1, 64, 65))))
+    left = set(range(1, 129)) - some
+    return draw.pick((maps.words(some), maps.words(left), maps.SlotMap(ALL_64, ALL_64), maps.SlotMap(draw.number(64), draw.number(64))))
+
+
+def own_map(draw, image, b):
+    """The map of the card's front table, or at times another."""
+    return maps.words(images.used_entries(image, b)) if draw.chance(80) else some_map(draw)
+
+
+def map_put_call(draw, image, b):
+    """The arguments of put, and a map."""
+    return *put_call(draw, image, b), own_map(draw, image, b)
+
+
+def map_clear_call(draw, image, b):
+    """The arguments of clear, and a map."""
+    return *size_and_slot(draw, image, b), own_map(draw, image, b)
+
+
 def size_only(draw, image, b):
     """A block size alone."""
     return (draw.block_size(b),)
@@ -234,6 +257,9 @@ ON_IMAGE = {
     "card_nth_used": lambda draw, image, b: (draw.block_size(b), draw.number(32, [0, len(images.used_blocks(image, b))])),
     "card_list": list_call,
     "card_free_runs": runs_call,
+    "card_map_make": size_only,
+    "card_map_put": map_put_call,
+    "card_map_clear": map_clear_call,
     "gpt_read_primary_header": size_only,
     "gpt_read_backup_header": size_only,
     "gpt_partentry_checksum": array_call,
@@ -321,6 +347,8 @@ def any_block_size(draw, b):
 
 
 LOOSE = {
+    "card_map_lowest_free": lambda draw, b: (some_map(draw),),
+    "card_map_used": lambda draw, b: (some_map(draw),),
     "gpt_crc32": lambda draw, b: (summed_data(draw),),
     "gpt_crc32_next": running_sum,
     "gpt_slot_sum": slot_sum,

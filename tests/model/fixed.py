@@ -5,6 +5,7 @@ import builder
 import entries
 import fixed_flags
 import fixed_ground
+import fixed_maps
 import fixed_places
 import fixed_twins
 import headers
@@ -98,7 +99,7 @@ def card_cases(calls):
     yield "nil type", calls["card_put"](image, 512, 1, record._replace(part_type_guid=NIL))[0], 19
 
 
-REQUESTS = (*fixed_twins.GROUPS, *fixed_flags.GROUPS, *fixed_places.GROUPS, fixed_ground.ground_cases)
+REQUESTS = (*fixed_twins.GROUPS, *fixed_flags.GROUPS, *fixed_places.GROUPS, fixed_ground.ground_cases, fixed_maps.map_cases)
 GROUPS = (built_fields, small_cases, running_cases, card_cases, *REQUESTS)
 
 

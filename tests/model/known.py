@@ -2,6 +2,7 @@
 
 import entries
 import images
+import maps
 import model
 from units import Guid, guid_bytes, guid_from
 
@@ -77,6 +78,9 @@ def checked_calls(slot, held):
         "card_nth_used": (B, 0),
         "card_list": (B, bytes(128 * entries.ROW)),
         "card_free_runs": (B, bytes(8 * 129), bytes(8 * 129)),
+        "card_map_make": (B,),
+        "card_map_put": (B, slot, held, maps.NONE),
+        "card_map_clear": (B, slot, maps.NONE),
     }
 
 

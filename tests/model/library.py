@@ -7,6 +7,7 @@ from ctypes import POINTER, c_size_t, c_uint8, c_uint16, c_uint32, c_uint64
 import builder
 import entries
 import headers
+import maps
 import mbr
 import units
 from units import NOWHERE
@@ -121,6 +122,8 @@ SIGNATURE = structure("gpt_signature", 4, [("bytes", c_uint8 * 4, 0)])
 RECORD_BYTES = structure("gpt_record_bytes", 16, [("bytes", c_uint8 * 16, 0)])
 MBR_BYTES = structure("gpt_mbr_bytes", 512, [("bytes", c_uint8 * 512, 0)])
 
+SLOT_MAP = structure("card_slot_map", 16, fields_of(c_uint64, "low", "high"), maps.SlotMap)
+
 # The one place that says how the answers of the card calls lie. Document 02, 5/13: place and differs may stand anywhere in
 # them; the other fields are in the order of the model's values. An answer without the two says place 0 and slot 0.
 CARD_ANSWER = answer("card_answer", 16, *fields_of(c_uint32, "slot", "place", "differs", start=4))
@@ -141,6 +144,9 @@ CARD_USED_READ = answer(
     *fields_of(c_uint32, "slot", "place", "differs", start=8),
     ("partition", PARTITION, 24),
 )
+MAP_MADE = answer("card_map_made", 32, *fields_of(c_uint32, "place", "differs", start=4), ("map", SLOT_MAP, 16))
+# card.h has the number, the slot and the place in a card_answer of their own, which lies here.
+CARRIED = answer("card_carried", 32, *fields_of(c_uint32, "slot", "place", "differs", start=4), ("map", SLOT_MAP, 16))
 STORED = answer("gpt_stored", 16, ("bytes", c_uint64, 8))
 COUNT = answer("gpt_count", 8, ("count", c_uint32, 4))
 NEXT = answer("gpt_next", 8, ("slot", c_uint32, 4))
@@ -173,6 +179,11 @@ DECLARED = {
     "card_nth_used": (CARD_USED_READ, LENT, c_uint64, c_uint32),
     "card_list": (CARD_COUNT, LENT, c_uint64, LENT),
     "card_free_runs": (CARD_COUNT, LENT, c_uint64, ROW_LENT, ROW_LENT),
+    "card_map_make": (MAP_MADE, LENT, c_uint64),
+    "card_map_put": (CARRIED, LENT, c_uint64, c_uint32, PARTITION, SLOT_MAP),
+    "card_map_clear": (CARRIED, LENT, c_uint64, c_uint32, SLOT_MAP),
+    "card_map_lowest_free": (NEXT, SLOT_MAP),
+    "card_map_used": (c_uint32, SLOT_MAP),
     "gpt_crc32": (c_uint32, LENT),
     "gpt_crc32_next": (c_uint32, c_uint32, LENT),
     "gpt_read_primary_header": (HEADER_READ, LENT, c_uint64),

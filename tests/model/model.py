@@ -5,8 +5,9 @@ import card
 import entries
 import ground
 import headers
+import maps
 import mbr
 import sums
 
-PARTS = (card, ground, sums, headers, builder, entries, mbr)
+PARTS = (card, ground, maps, sums, headers, builder, entries, mbr)
 CALLS = {name: function for part in PARTS for name, function in vars(part).items() if hasattr(function, "lent")}

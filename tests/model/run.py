@@ -114,7 +114,7 @@ class Rounds:
         draw = self.draw
         image = self.change(steps, image, "card_lay", (b, draw.guid()))
         for _ in range(draw.pick((0, 1, 3, 6, 12, 24))):
-            name = draw.pick(("card_put", "card_put", "card_put", "card_put", "card_clear", "card_write_payload", "card_write_payload"))
+            name = draw.pick(("card_put",) * 3 + ("card_map_put", "card_clear", "card_map_clear") + ("card_write_payload",) * 2)
             image = self.change(steps, image, name, cases.ON_IMAGE[name](draw, image, b))
         return image
 

@@ -18,6 +18,7 @@ def wrong_values(rounds=100):
             (library.GUID, draw.guid()),
             (library.PARTITION, draw.record()),
             (library.HEADER, draw.header()),
+            (library.SLOT_MAP, cases.some_map(draw)),
             (library.SETTINGS, draw.settings(512)),
             (library.RECORD, draw.mbr_record()),
             (library.MBR, draw.mbr()),

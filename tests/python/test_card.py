@@ -172,6 +172,26 @@ class ReadOnly(unittest.TestCase):
             card.free_runs(image[:-512], 512)
         self.assertEqual((refused.exception.number, refused.exception.place), (16, card.FRONT))
 
+    def test_a_slot_map_is_kept_through_calls(self):
+        image = filled()
+        beside = card.slot_map(bytes(image), 512)
+        self.assertEqual((beside, beside.used(), beside.lowest_free()), (card.SlotMap(4, 0), 1, 1))
+        slot, beside = card.put_lowest(image, 512, record(34, 34), beside)
+        self.assertEqual((slot, beside), (1, card.SlotMap(5, 0)))
+        beside = card.put_mapped(image, 512, 65, record(35, 35), beside)
+        self.assertEqual((beside, card.slot_map(image, 512)), (card.SlotMap(5, 1), card.SlotMap(5, 1)))
+        before = bytes(image)
+        with self.assertRaises(card.Refused) as refused:
+            card.put_lowest(image, 512, record(35, 36, guid=uuid.UUID(int=1)), beside)
+        self.assertEqual((refused.exception.number, refused.exception.slot, bytes(image)), (22, 65, before))
+        beside = card.clear_mapped(image, 512, 3, beside)
+        self.assertEqual((beside, card.slot_map(image, 512)), (card.SlotMap(1, 1), card.SlotMap(1, 1)))
+        with self.assertRaises(card.Refused) as refused:
+            card.put_lowest(image, 512, record(40, 41), card.SlotMap((1 << 64) - 1, (1 << 64) - 1))
+        self.assertEqual(refused.exception.number, 33)
+        with self.assertRaises(ValueError):
+            card.SlotMap(1 << 64, 0).used()
+
     def test_bytes_are_not_written(self):
         image = bytes(filled())
         before = bytes(bytearray(image))

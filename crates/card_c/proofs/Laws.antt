@@ -1,6 +1,7 @@
 -- How an answer crosses, one law for each way that the code makes one. No contract cites this file. Assumes nothing.
 use mathlib.Core.Path.{_≡_, refl, sym, ap, _∙_}
-use mathlib.Core.List.{List}
+use mathlib.Core.Bool.{Bool}
+use mathlib.Core.List.{List, []}
 use Prim.Native.Nat.{ℕ, _/_, _≤_, _<_}
 use borrow.Author.Tests.{lt-ltb, le-ltb}
 use lib.ListN.{length}
@@ -12,9 +13,12 @@ use Rattle.rows.specs.declared.inner.Plan.{Plan}
 use Rattle.rows.specs.Plans.{planned, roomed, plainly}
 use Rattle.rows.specs.RowBytes.{bytesOutcome}
 use Rattle.ground.specs.Answers.{Rows, RowsEnd}
+use Rattle.slot_map.specs.declared.SlotMap.{SlotMap}
+use Rattle.slot_map.specs.Bits.{mapOf}
+use Rattle.slot_map.proofs.BitLaws.{map-none}
 use Rattle.card_c.specs.declared.answers.CardAnswer.{CardAnswer}
 use Rattle.card_c.specs.Exports.{outcomeToC, rowsToC, crossed, aside, countToC, answered, entryParsed}
-use Rattle.card_c.specs.CardExports.{whyToC, crossedAt, asideAt}
+use Rattle.card_c.specs.CardExports.{whyToC, crossedAt, asideAt, mapBits, madeTold, MadeToC}
 
 module _ {A S : Type 0} (make : ℕ → A → S) (z : A) where
   pub crossed-fine : (a : Answer A) {x : A} → a ≡ accepted x → make 0 x ≡ crossed make z a
@@ -53,6 +57,19 @@ module _ {A S : Type 0} (make : CardAnswer → A → S) (z : A) where
   unfolding asideAt beside crossedAt
   aside-card (accepted x) = refl
   aside-card (refused w) = refl
+
+-- and of a map that is made, zero beside a refusal
+module _ (a : Answer (List Bool)) where
+  told-map : (k : CardAnswer) (m : SlotMap) → k ≡ madeTold a → mapOf m ≡ mapBits a → MadeToC a (record { number = k .number; place = k .place; differs = k .differs; map = m })
+  told-map k m t e = record { number = ap (λ (i : CardAnswer). i .number) t; place = ap (λ (i : CardAnswer). i .place) t; differs = ap (λ (i : CardAnswer). i .differs) t; map = e }
+
+  pub map-fine : {m : SlotMap} → a ≡ accepted (mapOf m) → MadeToC a (record { number = 0; place = 0; differs = 0; map = m })
+  unfolding mapBits
+  map-fine {m} e = told-map (whyToC fine) m (card-fine (λ k bs. k) [] a e) (sym (ap mapBits e))
+
+  pub map-no : {w : Why} {k : CardAnswer} → a ≡ refused w → k ≡ whyToC w → MadeToC a (record { number = k .number; place = k .place; differs = k .differs; map = record { low = 0; high = 0 } })
+  unfolding mapBits
+  map-no {w} {k} e q = told-map k (record { low = 0; high = 0 }) (card-no (λ k bs. k) [] a e q) (map-none ∙ sym (ap mapBits e))
 
 -- the answer that stands behind a verdict with a value beside it
 pub answered-beside : {A : Type 0} (z : A) (a : Answer A) → answered (beside z a) ≡ a

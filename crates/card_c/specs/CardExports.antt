@@ -1,23 +1,29 @@
 -- What C gets for each answer of the card calls: the number first, 0 for accepted, then the values, and the place that the card check names (document 02, 5/13), with the slot that
 -- differs apart from the slot that 22 or 25 carries. Beside a refusal each value is zero. Assumes nothing.
-use mathlib.Core.Bool.{false}
+use mathlib.Core.Path.{_≡_}
+use mathlib.Core.Bool.{Bool, false}
 use mathlib.Core.List.{List, []}
 use Prim.Native.Nat.{ℕ}
-use lib.ListN.{getD}
+use lib.ListN.{getD, replicate}
 use Rattle.units.specs.declared.Place.{Place}
 use Rattle.units.specs.declared.Place.the-variants as place
 use Rattle.units.specs.declared.why.Why.{Why}
 use Rattle.units.specs.Answer.{Answer, accepted, refused, fine, andThen, Beside}
+use Rattle.units.specs.Meanings.{cardMeans}
 use Rattle.partition.specs.Array.{Found}
 use Rattle.partition.specs.Format.{zeroPartition}
 use Rattle.listing.specs.Listing.{Listed}
 use Rattle.listing.specs.Meanings.{Used, firstUsed}
+use Rattle.slot_map.specs.declared.Carried.{Carried}
+use Rattle.slot_map.specs.Bits.{mapOf}
 use Rattle.card_c.specs.declared.answers.CardAnswer.{CardAnswer}
 use Rattle.card_c.specs.declared.answers.CardStored.{CardStored}
 use Rattle.card_c.specs.declared.answers.CardCount.{CardCount}
 use Rattle.card_c.specs.declared.answers.CardNext.{CardNext}
 use Rattle.card_c.specs.declared.answers.CardSlotRead.{CardSlotRead}
 use Rattle.card_c.specs.declared.answers.CardUsedRead.{CardUsedRead}
+use Rattle.card_c.specs.declared.maps.CardMapMade.{CardMapMade}
+use Rattle.card_c.specs.declared.maps.CardCarried.{CardCarried}
 
 -- the number of a place, and the slot that differs
 abbrev pub placeNumber : Place → ℕ
@@ -81,3 +87,25 @@ usedMade k u = record { number = k .number; found = u .found; slot = u .slot; pl
 -- the entry of a list of at most one; of none, as beside a refusal, slot 0 and the zero record
 abbrev pub usedToC : Answer (List Listed) → CardUsedRead
 usedToC a = crossedAt usedMade (firstUsed []) (andThen a (λ l. accepted (firstUsed l)))
+
+-- ---- the slot map
+
+-- the bits of the map that comes back: none beside a refusal
+unfoldable pub mapBits : Answer (List Bool) → List Bool
+mapBits (accepted bs) = bs
+mapBits (refused w) = replicate 128 false
+
+-- what an answer says apart from its map
+abbrev pub madeTold : Answer (List Bool) → CardAnswer
+madeTold a = crossedAt (λ k bs. k) [] a
+
+-- a map that was made, for C
+pub record MadeToC (a : Answer (List Bool)) (o : CardMapMade) : Type 0 where
+  pub number : o .number ≡ madeTold a .number
+  pub place : o .place ≡ madeTold a .place
+  pub differs : o .differs ≡ madeTold a .differs
+  pub map : mapOf (o .map) ≡ mapBits a
+
+-- a map is handed on as it is
+abbrev pub carriedToC : Carried → CardCarried
+carriedToC r = record { answer = answerToC (cardMeans (r .verdict)); map = r .map }

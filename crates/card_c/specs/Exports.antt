@@ -8,6 +8,7 @@ use Rattle.units.specs.declared.Lba.{Lba}
 use Rattle.units.specs.declared.BytePlace.{BytePlace}
 use Rattle.units.specs.declared.Guid.{Guid}
 use Rattle.units.specs.Answer.{Answer, accepted, refused, numberOf, refuse, pick, andThen, Beside, Outcome, gives}
+use Rattle.units.specs.declared.Slot.{Slot}
 use Rattle.units.specs.Guids.{nilGuid}
 use Rattle.header.specs.declared.Header.{Header}
 use Rattle.header.specs.Writing.{Written}
@@ -72,6 +73,10 @@ heldMade k f = record { number = k; present = f .present; partition = f .partiti
 
 abbrev pub heldToC : Answer Found → GptSlotRead
 heldToC a = crossed heldMade (record { present = false; partition = zeroPartition }) a
+
+-- the lowest free slot of a map; 33 names no place
+abbrev pub freeToC : Answer Slot → GptNext
+freeToC a = crossed (λ k s. record { number = k; slot = s .0 }) (record { 0 = 0 }) a
 
 -- ---- headers
 

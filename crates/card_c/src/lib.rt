@@ -7,4 +7,5 @@ mod cards; // cards.rt: the card calls
 mod entries; // entries.rt: partition entries
 mod grounds; // grounds.rt: the free ground
 mod headers; // headers.rt: headers and the check sum
+mod maps; // maps.rt: the slot map
 mod mbrs; // mbrs.rt: the protective MBR

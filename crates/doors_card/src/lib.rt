@@ -1,4 +1,4 @@
-// Doors: the public calls of card and ground once more, in one line each, under their own contracts word for word.
+// Doors: the public calls of card, ground and slot_map once more, in one line each, under their own contracts word for word.
 // Nobody calls them. They are there to be changed: each edit under must-fail puts an impostor behind a door, and the door's contract must refuse it.
 use ground::RunCount;
 use listing::CardCount;
@@ -6,6 +6,9 @@ use listing::CardNext;
 use listing::SlotRead;
 use listing::UsedRead;
 use partition::Partition;
+use slot_map::Carried;
+use slot_map::MapMade;
+use slot_map::SlotMap;
 use units::BytePlace;
 use units::CardStored;
 use units::CardVerdict;
@@ -14,16 +17,21 @@ use units::Place;
 use units::Reason;
 use units::Refusal;
 use units::Slot;
+use units::SlotFound;
 use units::why::Why;
 ghost use mathlib.Core.Path.{_≡_};
+ghost use mathlib.Core.Bool.{true, false};
 ghost use Rattle.units.specs.Answer.{Ends};
-ghost use Rattle.units.specs.Meanings.{cardMeans, cardStoredMeans};
+ghost use Rattle.units.specs.Meanings.{cardMeans, cardStoredMeans, slotMeans as foundMeans};
 ghost use Rattle.partition.specs.Array.{readingOf};
 ghost use Rattle.tables.specs.Check.{checkAnswer};
 ghost use Rattle.listing.specs.Listing.{countAnswer, nextAnswer, slotRead, nthAnswer};
 ghost use Rattle.listing.specs.Meanings.{cardCountMeans, cardNextMeans, slotMeans, usedMeans, nthReading};
 ghost use Rattle.ground.specs.Answers.{RowsEnd, runCountMeans, groundOutcome};
 ghost use Rattle.card.specs.Calls.{layOutcome, putOutcome, clearOutcome, payloadOutcome};
+ghost use Rattle.history.specs.History.{taken};
+ghost use Rattle.slot_map.specs.Bits.{mapOf, countTrue};
+ghost use Rattle.slot_map.specs.Map.{freeAnswer, madeMeans, madeAnswer, marked};
 
 pub fn lay(img: &mut [u8], b: u64, guid: Guid) -> CardVerdict
     ensures { λ r. ⌜ Ends (layOutcome b (now (img .entry)) guid) (cardMeans r) (now (img .exit)) ⌝ }
@@ -89,4 +97,36 @@ pub fn free_runs(img: &[u8], b: u64, starts: &mut [u64], lengths: &mut [u64]) ->
     ensures { λ r. ⌜ RowsEnd (groundOutcome b (now (img .entry)) (now (starts .entry)) (now (lengths .entry))) (runCountMeans r) (now (starts .exit)) (now (lengths .exit)) ⌝ }
 {
     ground::free_runs(img, b, starts, lengths)
+}
+
+pub fn slot_map(img: &[u8], b: u64) -> MapMade
+    ensures { λ r. ⌜ madeMeans r ≡ madeAnswer b (now (img .entry)) ⌝ }
+{
+    slot_map::slot_map(img, b)
+}
+
+pub fn map_put(img: &mut [u8], b: u64, slot: Slot, p: Partition, map: SlotMap) -> Carried
+    ensures { λ r. ⌜ Ends (putOutcome b (now (img .entry)) (slot .0) p) (cardMeans (r .verdict)) (now (img .exit)) ⌝ }
+    ensures { λ r. ⌜ mapOf (r .map) ≡ marked (taken (putOutcome b (now (img .entry)) (slot .0) p .answer)) (slot .0) true (mapOf map) ⌝ }
+{
+    slot_map::put(img, b, slot, p, map)
+}
+
+pub fn map_clear(img: &mut [u8], b: u64, slot: Slot, map: SlotMap) -> Carried
+    ensures { λ r. ⌜ Ends (clearOutcome b (now (img .entry)) (slot .0)) (cardMeans (r .verdict)) (now (img .exit)) ⌝ }
+    ensures { λ r. ⌜ mapOf (r .map) ≡ marked (taken (clearOutcome b (now (img .entry)) (slot .0) .answer)) (slot .0) false (mapOf map) ⌝ }
+{
+    slot_map::clear(img, b, slot, map)
+}
+
+pub fn lowest_free(map: SlotMap) -> SlotFound
+    ensures { λ r. ⌜ foundMeans r ≡ freeAnswer (mapOf map) ⌝ }
+{
+    map.lowest_free()
+}
+
+pub fn map_used(map: SlotMap) -> u32
+    ensures { λ r. ⌜ r ≡ countTrue (mapOf map) ⌝ }
+{
+    map.used()
 }

@@ -86,7 +86,7 @@ ok-put B n t s e reserved p =
     (else-none _ _ (when-none (ltb (firstTwin (t .front .array) (s - 1) (partGuidOf e)) 128) (ofSlot 25 (k + 1)) (le-ltb (firstTwin (t .front .array) (s - 1) (partGuidOf e)) 128 (omega (arith, o))))
     (when-none (not (eqb reserved 0)) (plain 28) (ap not (eq-eqb reserved 0 (p .flags)))))))
 
-small-zeros : (n : ℕ) → Small (zeros n)
+pub small-zeros : (n : ℕ) → Small (zeros n)
 small-zeros n i =
     split n i
     (λ p. let z : getD (zeros n) i 0 ≡ 0 = List·getD-eq-default (zeros n) 0 (omega (arith, length-zeros n)) in omega arith)

@@ -45,8 +45,8 @@ impl TryFrom<u64> for BlockSize {
 ///
 /// While it lives nobody else can change the image, so that it stays the card that [`lay`](Card::lay) laid or [`open`](Card::open) checked.
 pub struct Card<'image> {
-    image: &'image mut [u8],
-    block_size: BlockSize,
+    pub(crate) image: &'image mut [u8],
+    pub(crate) block_size: BlockSize,
 }
 
 impl<'image> Card<'image> {

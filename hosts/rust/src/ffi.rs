@@ -68,6 +68,9 @@ structs! {
     gpt_next 8 { 0 number: u32, 4 slot: u32 }
     gpt_slot_read 144 { 0 number: u32, 4 present: u8, 8 partition: gpt_partition }
     card_row 136 { 0 slot: u64, 8 entry: gpt_entry }
+    card_slot_map 16 { 0 low: u64, 8 high: u64 }
+    card_map_made 32 { 0 number: u32, 4 place: u32, 8 differs: u32, 16 map: card_slot_map }
+    card_carried 32 { 0 answer: card_answer, 16 map: card_slot_map }
     gpt_header_read 96 { 0 number: u32, 8 header: gpt_header }
     gpt_block 16 { 0 number: u32, 8 lba: u64 }
     gpt_sum 8 { 0 number: u32, 4 sum: u32 }
@@ -99,6 +102,11 @@ functions! {
     fn card_nth_used(img: *const u8, img_len: usize, b: u64, k: u32) -> card_used_read;
     fn card_list(img: *const u8, img_len: usize, b: u64, out: *mut u8, out_len: usize) -> card_count;
     fn card_free_runs(img: *const u8, img_len: usize, b: u64, starts: *mut u64, starts_len: usize, lengths: *mut u64, lengths_len: usize) -> card_count;
+    fn card_map_make(img: *const u8, img_len: usize, b: u64) -> card_map_made;
+    fn card_map_put(img: *mut u8, img_len: usize, b: u64, slot: u32, partition: gpt_partition, map: card_slot_map) -> card_carried;
+    fn card_map_clear(img: *mut u8, img_len: usize, b: u64, slot: u32, map: card_slot_map) -> card_carried;
+    fn card_map_lowest_free(map: card_slot_map) -> gpt_next;
+    fn card_map_used(map: card_slot_map) -> u32;
     fn gpt_crc32(bytes: *const u8, bytes_len: usize) -> u32;
     fn gpt_crc32_next(running: u32, bytes: *const u8, bytes_len: usize) -> u32;
     fn gpt_read_primary_header(img: *const u8, img_len: usize, b: u64) -> gpt_header_read;

@@ -34,6 +34,7 @@ compile_error!("libcard is for x86-64");
 mod calls;
 pub mod ffi;
 mod guid;
+mod maps;
 mod record;
 mod refusal;
 #[cfg(test)]
@@ -42,5 +43,6 @@ mod repository;
 
 pub use calls::{check, crc32_next, free_runs, get, list, BlockSize, Card, Listing, FRESH, SLOTS};
 pub use guid::{Guid, GuidError};
+pub use maps::SlotMap;
 pub use record::{Entry, Flags, Name, NameError, Record};
 pub use refusal::{Place, Refusal, Refused};

@@ -94,6 +94,35 @@ fn free_ground_has_at_most_129_runs() {
     assert_eq!(card.free_runs(), Ok(runs));
 }
 
+/// After each call, refused or not, the map is the one that is made again, and asking it is asking the card.
+#[test]
+fn a_slot_map_is_kept_through_calls() {
+    for (size, blocks, usable) in SMALLEST {
+        let mut image = laid(size, blocks + 130);
+        let mut card = Card::open(&mut image, size).unwrap();
+        let mut map = card.slot_map().unwrap();
+        assert_eq!((map.used(), map.lowest_free()), (0, Ok(1)));
+        for slot in [65, 1, 128, 64] {
+            card.put_mapped(slot, &record(usable + u64::from(slot), usable + u64::from(slot), "map"), &mut map).unwrap();
+            assert_eq!(Ok(map), card.slot_map());
+            assert!(map.has(slot) && !map.has(slot - 1) && !map.has(0) && !map.has(129));
+        }
+        let kept = map;
+        let overlap = card.put_mapped(2, &record(usable + 65, usable + 66, "map"), &mut map);
+        assert_eq!((overlap, map), (Err(Refusal::Overlap { slot: 65 }.into()), kept));
+        assert_eq!((card.clear_mapped(129, &mut map), map), (Err(Refusal::BadSlot.into()), kept));
+        card.clear_mapped(65, &mut map).unwrap();
+        card.clear_mapped(65, &mut map).unwrap();
+        assert_eq!((Ok(map), map.has(65), map.used()), (card.slot_map(), false, 3));
+        for slot in (2..=SLOTS).filter(|slot| ![64, 128].contains(slot)) {
+            assert_eq!(card.put_lowest(&record(usable + u64::from(slot), usable + u64::from(slot), "map"), &mut map), Ok(slot));
+        }
+        assert_eq!((Ok(map), map.used()), (card.slot_map(), 128));
+        assert_eq!(card.put_lowest(&record(usable, usable, "map"), &mut map), Err(Refusal::TableFull.into()));
+        assert_eq!(card.list().unwrap().len(), 128);
+    }
+}
+
 #[test]
 fn a_card_is_laid_filled_listed_and_cleared() {
     for (size, blocks, usable) in SMALLEST {
