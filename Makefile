@@ -9,7 +9,7 @@ LOG ?= target/gate.log
 # The scripts take these from the environment.
 export CC CFLAGS LDFLAGS PREFIX DESTDIR
 
-.PHONY: help demo sums test gate-times deps outside programs bench lib install uninstall install-test boundary example lister-test python rust documents interop differential differential-slips scripts-test boundary-valgrind rust-outside race model edits clean
+.PHONY: help demo sums test gate-times deps outside programs bench lib install uninstall install-test boundary example lister-test python rust documents interop differential differential-slips scripts-test boundary-valgrind rust-outside race model cuts cuts-quick firmware firmware-quick edits clean
 
 # Two runs of rt in one repository write the same files, so with -j, too, one target is made after the other.
 .NOTPARALLEL:
@@ -167,8 +167,24 @@ race: lib
 
 # Compares every call of the library, its answers and every lent byte, with a model that was written from the documents alone (tests/model). Variables: SEED, SECONDS.
 model: lib
-	python3 tests/model/run.py --alone --seed 1 --cases 50000
+	python3 tests/model/run.py --alone --seed 1 --cases 75000
 	python3 tests/model/run.py $(if $(SEED),--seed $(SEED)) --seconds $(or $(SECONDS),30)
+
+# Pulls cards in files: cuts updates and repairs after every stage at every slot, and at 10,000 random places (tests/cuts). Variables: SEED, CUTS.
+cuts: lib
+	python3 tests/cuts/run.py $(if $(SEED),--seed $(SEED)) --cuts $(or $(CUTS),10000)
+
+# Makes some hundreds of these cuts.
+cuts-quick: lib
+	python3 tests/cuts/run.py --quick $(if $(SEED),--seed $(SEED))
+
+# Shows whole, cut and damaged cards to Linux, EDK2's firmware, U-Boot and the readers of other makers (tests/firmware). It takes minutes, QEMU, and a kernel that apt-get downloads.
+firmware: lib
+	@tests/firmware/run.sh
+
+# Shows some of these cards to the readers on files.
+firmware-quick: lib
+	@SKIP="kernel ovmf uboot" QUICK=1 tests/firmware/run.sh
 
 # Removes all that was built and proved.
 clean:

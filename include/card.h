@@ -39,7 +39,7 @@ extern "C" {
 #define CARD_AT(type, field, place) CARD_ASSERT(offsetof(type, field) == (place), "the place of " #field " in " #type)
 
 /* The bytes of stack that a call needs at most. Of these the check sum's table is 16,384, in every call that sums anything but one header alone; all else was at
-   most 2,216 when it was last measured. tests/c/stack.c measures every call, and makes it on a thread of 24 KiB. */
+   most 2,280 when it was last measured. tests/c/stack.c measures every call, and makes it on a thread of 24 KiB. */
 #define CARD_STACK 20480
 
 /* The numbers that a call comes back with. A call's tests run in the order in which its numbers are listed beside it; 1 is always first. */
@@ -70,10 +70,10 @@ enum card_number {
     CARD_EMPTY_SLOT = 23,              /* the slot is not used */
     CARD_PAST_PARTITION = 24,          /* the bytes pass the partition's end */
     CARD_TWIN_GUID = 25,               /* a partition GUID that another used slot has; the answer names the lowest such slot */
-    /* Of the numbers from 26 on a call gives 28 and 33 alone yet: each other one comes with its change request. */
-    CARD_WRONG_STAGE = 26,             /* the stage is not the next one of this update */
+    CARD_WRONG_STAGE = 26,             /* the state does not lead to this stage of this card */
     CARD_NO_GOOD_COPY = 27,            /* neither table of the card can be read */
     CARD_RESERVED_FLAG = 28,           /* a flag that UEFI keeps reserved */
+    /* Of the numbers from 29 on a call gives 33 alone yet: each other one comes with its change request. */
     CARD_BAD_HEADER_SIZE = 29,         /* the header's stated size is below 92 or above the block size */
     CARD_DIRTY_BLOCK = 30,             /* the header's block has other bytes than zero after the header */
     CARD_WRONG_PLACE = 31,             /* the header names another block than the one it was read from */
@@ -497,6 +497,146 @@ gpt_next card_map_lowest_free(card_slot_map map);
 
 /* How many slots of a map are used. */
 uint32_t card_map_used(card_slot_map map);
+
+/* ---- the pulled card: put, clear and repair in stages of one block store each, and the reader of a card that was pulled between them
+
+   A put or a clear has four stages. With N blocks, img_len / b, and A blocks of the array, 16,384 / b, each changes one block and no other byte:
+     1  block N - 1 - A + (slot - 1) * 128 / b, the slot's bytes in the back array     2  block N - 1, the back header
+     3  block 2 + (slot - 1) * 128 / b, the slot's bytes in the front array            4  block 1, the front header
+   A card that is pulled before, between or after them is read by the reader as exactly the old table or exactly the new one: the old one up to stage two, the
+   new one from stage three on. After stage four the image is what card_put or card_clear would have left. All this rests on two premises, which no call can see:
+   - A block is stored wholly or not at all.
+   - Nothing else writes the image between the stages.
+   What a host owes:
+   - Have the device store what a stage changed, flushed and not only handed over, before the next stage is made, and at the latest between stages two and three.
+     A device that keeps only one of the first two stages and only one of the last two leaves a card that the reader refuses by 27.
+   - Hand each state to the next stage once, and drop it. A state is a value, and 26 cannot see a stale copy of one. Where a staged put was finished and another put came
+     after it, the first one's old states at stages two and four leave a card that the reader refuses by 27.
+   - Repair only what card_check refuses. A repair begins with zeros in the header that the reader does not take: of a whole card it first destroys the back header, and
+     a cut then leaves a card that every plain call refuses, though the reader still shows its table.
+   - Hand a card to a tablet only after stage four or a finished repair. Between the stages the plain calls answer by the card check, which may refuse. */
+
+/* back: whether the reader takes the back table, since the front one does not pass. */
+typedef struct card_copy {
+    uint32_t number;
+    bool back;
+} card_copy;
+CARD_SIZE(card_copy, 8);
+CARD_AT(card_copy, number, 0);
+CARD_AT(card_copy, back, 4);
+
+/* Which table the reader takes: the front one if its header, layout, array and entries pass, else the back one by the same tests. Of a card that card_check accepts it is the
+   front one.
+   1, 8, 10, 27 where neither passes. */
+card_copy card_reader_copy(const uint8_t *img, size_t img_len, uint64_t b);
+
+/* How many slots of that table are used.
+   1, 8, 10, 27. */
+gpt_count card_reader_count(const uint8_t *img, size_t img_len, uint64_t b);
+
+/* The first used slot of that table after a slot; 0 stands before the first.
+   1, 8, 10, 27. */
+gpt_next card_reader_next(const uint8_t *img, size_t img_len, uint64_t b, uint32_t after);
+
+/* What a slot of that table holds.
+   1, 8, 10, 27, 18. */
+gpt_slot_read card_reader_slot(const uint8_t *img, size_t img_len, uint64_t b, uint32_t slot);
+
+/* That table's listing into lent bytes, as card_list makes it of a whole card.
+   1, 8, 10, 27, 15 where out_len is less than 136 times the count. */
+gpt_count card_reader_list(const uint8_t *img, size_t img_len, uint64_t b, uint8_t *out, size_t out_len);
+
+/* A put or a clear between its stages: the next stage, from 2 to 4, or 5 where it is finished; what stage one fixed, which is the slot, its 128 bytes, the disk GUID and
+   the check sum of the new array; and the block size and the length in bytes of the image that it began on. */
+typedef struct card_update {
+    uint32_t next;
+    uint32_t slot;
+    uint64_t b;
+    size_t len;
+    uint8_t entry[128];
+    gpt_guid guid;
+    uint32_t parts;
+} card_update;
+CARD_SIZE(card_update, 176);
+CARD_AT(card_update, next, 0);
+CARD_AT(card_update, slot, 4);
+CARD_AT(card_update, b, 8);
+CARD_AT(card_update, len, 16);
+CARD_AT(card_update, entry, 24);
+CARD_AT(card_update, guid, 152);
+CARD_AT(card_update, parts, 168);
+
+/* slot, place and differs as in a card_answer; the state beside a refusal is zero, and leads to no stage. */
+typedef struct card_update_step {
+    uint32_t number;
+    uint32_t slot;
+    uint32_t place;
+    uint32_t differs;
+    card_update state;
+} card_update_step;
+CARD_SIZE(card_update_step, 192);
+CARD_AT(card_update_step, number, 0);
+CARD_AT(card_update_step, slot, 4);
+CARD_AT(card_update_step, place, 8);
+CARD_AT(card_update_step, differs, 12);
+CARD_AT(card_update_step, state, 16);
+
+/* Stage one of a put: the state for stage two.
+   As card_put. */
+card_update_step card_start_put(uint8_t *img, size_t img_len, uint64_t b, uint32_t slot, gpt_partition partition);
+
+/* Stage one of a clear: the state for stage two.
+   As card_clear. */
+card_update_step card_start_clear(uint8_t *img, size_t img_len, uint64_t b, uint32_t slot);
+
+/* Stage two, three or four of a put or a clear: the state for the next one. It looks at the state, the block size and the length alone; of the image it reads nothing.
+   1, 26 if stage is not the state's next, b or img_len are not the state's, or the state holds a slot, a block size, a length or a stage that no accepted stage one leads
+   to. The slot's bytes, the GUID and the sum are stored as they stand. */
+card_update_step card_next_stage(uint8_t *img, size_t img_len, uint64_t b, uint32_t stage, card_update state);
+
+/* A repair between its stages: the next stage, from 2 to A + 2, or A + 3 where it is finished; whether the back table is the good one; the block size and the length in
+   bytes of the image that it began on; and the disk GUID and the array's check sum of the good table. */
+typedef struct card_repair {
+    uint32_t next;
+    bool back;
+    uint64_t b;
+    size_t len;
+    gpt_guid guid;
+    uint32_t parts;
+} card_repair;
+CARD_SIZE(card_repair, 48);
+CARD_AT(card_repair, next, 0);
+CARD_AT(card_repair, back, 4);
+CARD_AT(card_repair, b, 8);
+CARD_AT(card_repair, len, 16);
+CARD_AT(card_repair, guid, 24);
+CARD_AT(card_repair, parts, 40);
+
+/* slot, place and differs are zero; the state beside a refusal is zero too, and leads to no stage. */
+typedef struct card_repair_step {
+    uint32_t number;
+    uint32_t slot;
+    uint32_t place;
+    uint32_t differs;
+    card_repair state;
+} card_repair_step;
+CARD_SIZE(card_repair_step, 64);
+CARD_AT(card_repair_step, number, 0);
+CARD_AT(card_repair_step, slot, 4);
+CARD_AT(card_repair_step, place, 8);
+CARD_AT(card_repair_step, differs, 12);
+CARD_AT(card_repair_step, state, 16);
+
+/* Stage one of a repair, which gives the table that the reader does not take the disk GUID and the array of the one that it takes, under the header that card_lay has
+   there. It has A + 2 stages, 34 with blocks of 512 bytes and 6 with 4,096: zeros in the other table's header block, the blocks of its array ascending, its header. The header is in
+   block N - 1 and the array begins in block N - 1 - A, or where state.back is true in blocks 1 and 2. A cut between the stages never changes what the reader
+   shows.
+   1, 8, 10, 27. */
+card_repair_step card_start_repair(uint8_t *img, size_t img_len, uint64_t b);
+
+/* A later stage of a repair, from 2 to A + 2: the state for the next one. An array block is copied from the good table as the image has it then.
+   1, 26 as card_next_stage. */
+card_repair_step card_next_repair(uint8_t *img, size_t img_len, uint64_t b, uint32_t stage, card_repair state);
 
 /* ---- the ported calls: the check sum and headers */
 

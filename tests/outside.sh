@@ -98,10 +98,12 @@ run boundary-valgrind "every call across the boundary, under valgrind" x86-64 cc
 run python "the Python module's example" x86-64 python3 cc
 run race "calls beside a second writer" x86-64 python3 cc
 run model "every call beside a model from the documents" x86-64 python3 cc
+run cuts-quick "cards cut between stages" x86-64 python3 cc
 run rust "the Rust crate's tests" x86-64 cargo cc
 run install-test "installed and used from there" x86-64 cc install
 run documents "the documents' commands" x86-64 python3 cc
 run interop "cards beside sgdisk, sfdisk, fdisk and parted" x86-64 python3 cc sgdisk sfdisk fdisk parted
+run firmware-quick "cut cards before the readers of other makers" x86-64 python3 cc sfdisk parted sgdisk
 run scripts-test "the scripts of the gate, with a stand-in for rt" python3
 IN_TEST=1
 export IN_TEST

@@ -1,6 +1,8 @@
-"""The card calls for Python, over libcard.so: lay, check, put, clear, write_payload, listing, free_runs; slot_map and what goes with it; and crc32_next, the check sum of bytes that come in pieces.
+"""The card calls for Python, over libcard.so: lay, check, put, clear, write_payload, listing, free_runs; slot_map and what goes with it; start_put, start_clear, next_stage,
+start_repair and next_repair, which change one block each, the reader of a card that was pulled between them (reader_..), and put_staged, clear_staged and repair_staged, which do all of it
+on a file; and crc32_next, the check sum of bytes that come in pieces.
 
-An image is any writable buffer of contiguous bytes, such as a bytearray or an mmap; check, listing, free_runs and slot_map take read-only ones too, such as bytes. No call
+An image is any writable buffer of contiguous bytes, such as a bytearray or an mmap; check, listing, free_runs, slot_map and the reader take read-only ones too, such as bytes. No call
 copies the image. A call that is refused raises Refused, with the number of the refusal (NUMBERS), and changes nothing.
 
 The interpreter's lock is kept during a call, so that no other thread of Python writes the image meanwhile. Other processes must not do so either.
@@ -45,12 +47,41 @@ card.Refused: refused 4, InvalidGptSignature: the back table's header does not b
 >>> hex(crc32_next(crc32_next(FRESH, b"1234"), b"56789"))
 '0xcbf43926'
 
+People pull cards in the middle of an update. Stage by stage a put or a clear changes one block at a time, and wherever it is cut the reader shows exactly the old table or
+exactly the new one: the old one up to stage two, the new one from stage three on.
+
+>>> state = start_clear(image, 512, 1)
+>>> for stage in (2, 3, 4):
+...     print(state.next, [entry.slot for entry in reader_listing(image, 512)])
+...     state = next_stage(image, 512, stage, state)
+2 [1]
+3 [1]
+4 []
+>>> listing(image, 512)
+[]
+>>> next_stage(image, 512, 4, state)
+Traceback (most recent call last):
+  ...
+card.Refused: refused 26, WrongStage: the state does not lead to this stage of this card
+>>> image[512:1024] = bytes(512)
+>>> reader_copy(image, 512) == BACK
+True
+>>> state = start_repair(image, 512)
+>>> while state.next <= state.stages():
+...     state = next_repair(image, 512, state.next, state)
+>>> check(image, 512)
+
+On a file, put_staged(path, 512, 2, record) has the device store each block before it makes the next stage. Two premises hold these promises up: a block is stored wholly or not at
+all, and nothing else writes the card between the stages. Repair only what check refuses: a repair of a whole card first destroys its back header. Hand a card to a
+tablet only after stage four or a finished repair.
+
 The library is the file that CARD_LIBRARY names. Where that is not set, libcard.so.0 or libcard.so is looked for beside this file, in ../../target/lib and
 where the system's loader looks.
 """
 import contextlib
 import ctypes
 import errno
+import mmap
 import operator
 import os
 import uuid
@@ -86,10 +117,10 @@ NUMBERS = {
     23: ("EmptySlot", "the slot is not used"),
     24: ("PastPartition", "the bytes pass the partition's end"),
     25: ("TwinGuid", "a partition GUID that another used slot has"),
-    # Of the numbers from 26 on a call gives 28 and 33 alone yet: each other one comes with its change request.
-    26: ("WrongStage", "the stage is not the next one of this update"),
+    26: ("WrongStage", "the state does not lead to this stage of this card"),
     27: ("NoGoodCopy", "neither table of the card can be read"),
     28: ("ReservedFlag", "a flag that UEFI keeps reserved"),
+    # Of the numbers from 29 on a call gives 33 alone yet: each other one comes with its change request.
     29: ("BadHeaderSize", "the header's stated size is below 92 or above the block size"),
     30: ("DirtyBlock", "the header's block has other bytes than zero after the header"),
     31: ("WrongPlace", "the header names another block than the one it was read from"),
@@ -197,6 +228,52 @@ class SlotMap:
         return _map_used(_map(self))
 
 
+@dataclass(frozen=True)
+class Update:
+    """A put or a clear between its stages: the next stage, 5 where it is finished; what stage one fixed (the slot, its 128 bytes, the disk GUID and the check sum of the new
+    array); and the block size and the length in bytes of the image that it began on. Hand it to the next stage once, and drop it: no call can see a stale copy of one."""
+
+    next: int
+    slot: int
+    block_size: int
+    length: int
+    entry: bytes
+    guid: uuid.UUID
+    parts: int
+
+    def block(self, stage):
+        """The block that a stage from 1 to 4 changes."""
+        last, inside = self.length // self.block_size - 1, (self.slot - 1) * 128 // self.block_size
+        return (last - 16384 // self.block_size + inside, last, 2 + inside, 1)[stage - 1]
+
+    def stages(self):
+        """How many stages there are."""
+        return 4
+
+
+@dataclass(frozen=True)
+class Repair:
+    """A repair between its stages: the next stage; whether the back table is the good one; the block size and the length in bytes of the image that it began on; and the
+    good table's disk GUID and the check sum of its array. Hand it on as an Update."""
+
+    next: int
+    back: bool
+    block_size: int
+    length: int
+    guid: uuid.UUID
+    parts: int
+
+    def block(self, stage):
+        """The block that a stage changes: the header of the table that is not the good one at the first and at the last stage, a block of its array at each other."""
+        last = self.length // self.block_size - 1
+        header, array = (1, 2) if self.back else (last, last - 16384 // self.block_size)
+        return header if stage in (1, self.stages()) else array + stage - 2
+
+    def stages(self):
+        """How many stages there are: 34 with blocks of 512 bytes, 6 with 4,096."""
+        return 16384 // self.block_size + 2
+
+
 class _Map(ctypes.Structure):
     _fields_ = [("low", ctypes.c_uint64), ("high", ctypes.c_uint64)]
 
@@ -250,6 +327,31 @@ class _Carried(ctypes.Structure):
     _fields_ = [("answer", _Answer), ("map", _Map)]
 
 
+class _Copy(ctypes.Structure):
+    _fields_ = [("number", ctypes.c_uint32), ("back", ctypes.c_bool)]
+
+
+class _ReaderCount(ctypes.Structure):
+    _fields_ = [("number", ctypes.c_uint32), ("count", ctypes.c_uint32)]
+
+
+class _Update(ctypes.Structure):
+    _fields_ = [("next", ctypes.c_uint32), ("slot", ctypes.c_uint32), ("b", ctypes.c_uint64), ("len", ctypes.c_size_t), ("entry", ctypes.c_uint8 * 128), ("guid", _Guid),
+                ("parts", ctypes.c_uint32)]
+
+
+class _UpdateStep(ctypes.Structure):
+    _fields_ = [*_Answer._fields_, ("state", _Update)]
+
+
+class _Repair(ctypes.Structure):
+    _fields_ = [("next", ctypes.c_uint32), ("back", ctypes.c_bool), ("b", ctypes.c_uint64), ("len", ctypes.c_size_t), ("guid", _Guid), ("parts", ctypes.c_uint32)]
+
+
+class _RepairStep(ctypes.Structure):
+    _fields_ = [*_Answer._fields_, ("state", _Repair)]
+
+
 class _Row(ctypes.Structure):
     _fields_ = [("slot", ctypes.c_uint64), ("entry", _Entry)]
 
@@ -263,7 +365,8 @@ class _Buffer(ctypes.Structure):
 
 
 for _struct, _size in ((_Flags, 16), (_Bits, 16), (_Record, 136), (_Entry, 128), (_Guid, 16), (_Answer, 16), (_Stored, 24), (_Count, 16), (_Next, 8), (_Row, 136), (_Map, 16),
-                       (_Made, 32), (_Carried, 32), (_Buffer, 80)):
+                       (_Made, 32), (_Carried, 32), (_Copy, 8), (_ReaderCount, 8), (_Update, 176), (_UpdateStep, 192), (_Repair, 48), (_RepairStep, 64),
+                       (_Buffer, 80)):
     if ctypes.sizeof(_struct) != _size:
         raise ImportError(f"{_struct.__name__} has {ctypes.sizeof(_struct)} bytes here, and not {_size}: this module is for x86-64")
 
@@ -317,6 +420,13 @@ _put_mapped = _declare("card_map_put", _Carried, *_slice, ctypes.c_uint64, ctype
 _clear_mapped = _declare("card_map_clear", _Carried, *_slice, ctypes.c_uint64, ctypes.c_uint32, _Map)
 _lowest_free = _declare("card_map_lowest_free", _Next, _Map)
 _map_used = _declare("card_map_used", ctypes.c_uint32, _Map)
+_reader_copy = _declare("card_reader_copy", _Copy, *_slice, ctypes.c_uint64)
+_reader_list = _declare("card_reader_list", _ReaderCount, *_slice, ctypes.c_uint64, *_slice)
+_start_put = _declare("card_start_put", _UpdateStep, *_slice, ctypes.c_uint64, ctypes.c_uint32, _Record)
+_start_clear = _declare("card_start_clear", _UpdateStep, *_slice, ctypes.c_uint64, ctypes.c_uint32)
+_next_stage = _declare("card_next_stage", _UpdateStep, *_slice, ctypes.c_uint64, ctypes.c_uint32, _Update)
+_start_repair = _declare("card_start_repair", _RepairStep, *_slice, ctypes.c_uint64)
+_next_repair = _declare("card_next_repair", _RepairStep, *_slice, ctypes.c_uint64, ctypes.c_uint32, _Repair)
 _flags_of = _declare("gpt_flags_of", _Flags, ctypes.c_uint64)
 _flags_bits = _declare("gpt_flags_bits", _Bits, _Flags)
 _sum_next = _declare("gpt_crc32_next", ctypes.c_uint32, ctypes.c_uint32, *_slice)
@@ -401,6 +511,30 @@ def _carried(answer):
     return SlotMap(answer.map.low, answer.map.high)
 
 
+def _update(u):
+    if len(u.entry) != 128:
+        raise ValueError(f"the slot's bytes are 128, and not {len(u.entry)}")
+    stage, slot, parts = (_number(x, 32, "a number of the state") for x in (u.next, u.slot, u.parts))
+    b, length = (_number(x, 64, "a number of the state") for x in (u.block_size, u.length))
+    return _Update(stage, slot, b, length, (ctypes.c_uint8 * 128).from_buffer_copy(u.entry), _Guid.from_buffer_copy(u.guid.bytes_le), parts)
+
+
+def _repair(r):
+    stage, parts = (_number(x, 32, "a number of the state") for x in (r.next, r.parts))
+    b, length = (_number(x, 64, "a number of the state") for x in (r.block_size, r.length))
+    return _Repair(stage, r.back, b, length, _Guid.from_buffer_copy(r.guid.bytes_le), parts)
+
+
+def _updated(step):
+    u = _take(step).state
+    return Update(u.next, u.slot, u.b, u.len, bytes(u.entry), uuid.UUID(bytes_le=bytes(u.guid)), u.parts)
+
+
+def _repaired(step):
+    r = _take(step).state
+    return Repair(r.next, r.back, r.b, r.len, uuid.UUID(bytes_le=bytes(r.guid)), r.parts)
+
+
 def _blocks(block_size):
     return _number(block_size, 64, "the block size")
 
@@ -482,6 +616,103 @@ def put_lowest(image, block_size, record, beside):
     """Puts a record into the lowest slot that is free in the slot map `beside`; gives the slot and the map after it. 33, then as put."""
     slot = beside.lowest_free()
     return slot, put_mapped(image, block_size, slot, record, beside)
+
+
+def reader_copy(image, block_size):
+    """The table that the reader takes, FRONT or BACK: the front one if its header, layout, array and entries pass, else the back one by the same tests. 1, 8, 10, 27."""
+    with _lent(image) as lent:
+        return BACK if _take(_reader_copy(*lent, _blocks(block_size))).back else FRONT
+
+
+def reader_listing(image, block_size):
+    """The used slots of that table, ascending, each with its record. 1, 8, 10, 27."""
+    rows = (_Row * 128)()
+    with _lent(image) as lent:
+        n = _take(_reader_list(*lent, _blocks(block_size), ctypes.byref(rows), ctypes.sizeof(rows))).count
+    return [Entry(row.slot, _read(row.entry)) for row in rows[:n]]
+
+
+def start_put(image, block_size, slot, record):
+    """Stage one of a put, which changes one block: gives the Update for stage two. As put."""
+    with _lent(image, written=True) as lent:
+        return _updated(_start_put(*lent, _blocks(block_size), _number(slot, 32, "the slot"), _record(record)))
+
+
+def start_clear(image, block_size, slot):
+    """Stage one of a clear, which changes one block: gives the Update for stage two. As clear."""
+    with _lent(image, written=True) as lent:
+        return _updated(_start_clear(*lent, _blocks(block_size), _number(slot, 32, "the slot")))
+
+
+def next_stage(image, block_size, stage, state):
+    """Stage two, three or four of a put or a clear, which changes one block: gives the Update for the next one. 1, then 26 unless the state leads to this stage of an
+    image of this length and block size."""
+    with _lent(image, written=True) as lent:
+        return _updated(_next_stage(*lent, _blocks(block_size), _number(stage, 32, "the stage"), _update(state)))
+
+
+def start_repair(image, block_size):
+    """Stage one of a repair, which gives the table that the reader does not take the disk GUID and the array of the other: zeros in its header. Repair only what check
+    refuses. 1, 8, 10, 27."""
+    with _lent(image, written=True) as lent:
+        return _repaired(_start_repair(*lent, _blocks(block_size)))
+
+
+def next_repair(image, block_size, stage, state):
+    """A later stage of a repair, which changes one block: a block of the array, or at the last stage the header. 1, then 26 as next_stage."""
+    with _lent(image, written=True) as lent:
+        return _repaired(_next_repair(*lent, _blocks(block_size), _number(stage, 32, "the stage"), _repair(state)))
+
+
+@contextlib.contextmanager
+def _opened(path):
+    """A card's file or device, and its bytes in memory that is ours alone: of what a stage changes there, nothing is in the file before _store. No byte is read before it is
+    looked at."""
+    file = os.open(path, os.O_RDWR | os.O_CLOEXEC)
+    try:
+        length = os.lseek(file, 0, os.SEEK_END)
+        with mmap.mmap(file, length, access=mmap.ACCESS_COPY) if length else contextlib.nullcontext(bytearray()) as image:
+            yield file, image
+    finally:
+        os.close(file)
+
+
+def _store(file, image, place, length):
+    """Has the device store one block, and waits until it has."""
+    block = bytes(image[place:place + length])
+    while block:
+        done = os.pwrite(file, block, place)
+        block, place = block[done:], place + done
+    os.fsync(file)
+
+
+def _staged(path, block_size, stop_after, start, go_on):
+    """Makes the stages on a file, each stored before the next is made; with stop_after only so many of them, as if the card were pulled there."""
+    with _opened(path) as (file, image):
+        state = start(image)
+        for stage in range(1, state.stages() + 1):
+            if stop_after is not None and stage > stop_after:
+                return
+            if stage > 1:
+                state = go_on(image, block_size, stage, state)
+            _store(file, image, state.block(stage) * block_size, block_size)
+
+
+def put_staged(path, block_size, slot, record, stop_after=None):
+    """A put on a card's file or device, in four stages of one block each: the device has stored each before the next is made. Wherever it is cut, the reader shows the old
+    table or the new one, if a block is stored wholly or not at all and nothing else writes the card meanwhile. As put, and OSError where the device fails."""
+    _staged(path, block_size, stop_after, lambda image: start_put(image, block_size, slot, record), next_stage)
+
+
+def clear_staged(path, block_size, slot, stop_after=None):
+    """A clear, likewise. As clear."""
+    _staged(path, block_size, stop_after, lambda image: start_clear(image, block_size, slot), next_stage)
+
+
+def repair_staged(path, block_size, stop_after=None):
+    """A repair, likewise: 34 stages with blocks of 512 bytes, 6 with 4,096. Wherever it is cut, the reader shows what it showed. Repair only what check refuses: of a whole card a
+    repair first destroys the back header. 1, 8, 10, 27."""
+    _staged(path, block_size, stop_after, lambda image: start_repair(image, block_size), next_repair)
 
 
 def crc32_next(running, data):

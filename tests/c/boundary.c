@@ -233,6 +233,8 @@ static void all_at(uint32_t number, uint32_t place, uint32_t differs) {
     AT(card_map_make(img, LEN, BLOCK), place, differs);
     AT(card_map_put(img, LEN, BLOCK, 1, some(34, 34), none).answer, place, differs);
     AT(card_map_clear(img, LEN, BLOCK, 1, none).answer, place, differs);
+    AT(card_start_put(img, LEN, BLOCK, 1, some(34, 34)), place, differs);
+    AT(card_start_clear(img, LEN, BLOCK, 1), place, differs);
 }
 
 /* One array or header changed, its sums made right by the ported calls where that is asked for: which table, and where. The image is given back as it was. */
@@ -393,6 +395,240 @@ static void maps(void) {
     SAME(c.answer.slot, 0);
     BYTES(&c.map, &both, sizeof both);
     KEPT();
+}
+
+/* The reader of an image that has slots 7 and 128 in the table that it takes. */
+static void reads_both(bool back) {
+    gpt_partition p = some(35, 36), q = some(34, 34);
+    card_row rows[3];
+    card_copy c = card_reader_copy(img, LEN, BLOCK);
+    SAME(c.number, 0);
+    SAME(c.back, back);
+    SAME(card_reader_count(img, LEN, BLOCK).number, 0);
+    SAME(card_reader_count(img, LEN, BLOCK).count, 2);
+    SAME(card_reader_next(img, LEN, BLOCK, 0).slot, 7);
+    SAME(card_reader_next(img, LEN, BLOCK, 7).slot, 128);
+    SAME(card_reader_next(img, LEN, BLOCK, 128).slot, 0);
+    gpt_slot_read r = card_reader_slot(img, LEN, BLOCK, 7);
+    SAME(r.number, 0);
+    SAME(r.present, 1);
+    RECORD(r.partition, p);
+    r = card_reader_slot(img, LEN, BLOCK, 8);
+    SAME(r.number, 0);
+    SAME(r.present, 0);
+    RECORD(r.partition, no_record);
+    memset(rows, 0x77, sizeof rows);
+    gpt_count n = card_reader_list(img, LEN, BLOCK, (uint8_t *)rows, sizeof rows);
+    SAME(n.number, 0);
+    SAME(n.count, 2);
+    SAME(rows[0].slot, 7);
+    STANDS(&rows[0].entry, p);
+    SAME(rows[1].slot, 128);
+    STANDS(&rows[1].entry, q);
+    SAME(rows[2].slot, 0x7777777777777777);
+    KEPT();
+}
+
+/* Every call of the reader is refused by one number, and the rest of each answer is zero. */
+static void unread(size_t len, uint64_t b, uint32_t number) {
+    uint8_t rows[272];
+    card_copy c = card_reader_copy(img, len, b);
+    SAME(c.number, number);
+    SAME(c.back, 0);
+    gpt_count n = card_reader_count(img, len, b);
+    SAME(n.number, number);
+    SAME(n.count, 0);
+    gpt_next next = card_reader_next(img, len, b, 0);
+    SAME(next.number, number);
+    SAME(next.slot, 0);
+    gpt_slot_read r = card_reader_slot(img, len, b, 129);
+    SAME(r.number, number);
+    SAME(r.present, 0);
+    RECORD(r.partition, no_record);
+    memset(rows, 0x77, sizeof rows);
+    n = card_reader_list(img, len, b, rows, sizeof rows);
+    SAME(n.number, number);
+    SAME(n.count, 0);
+    SAME(le(rows, 8), 0x7777777777777777);
+    KEPT();
+}
+
+/* The reader on a whole card, on one whose front table is broken, on one whose tables both are, and on images that are no card. */
+static void readers(void) {
+    uint8_t rows[271];
+    memcpy(before, img, LEN);
+    reads_both(false);
+    SAME(card_reader_slot(img, LEN, BLOCK, 129).number, CARD_BAD_SLOT);
+    SAME(card_reader_slot(img, LEN, BLOCK, 0).present, 0);
+    SAME(card_reader_list(img, LEN, BLOCK, rows, sizeof rows).number, CARD_NO_ROOM);
+    SAME(card_reader_list(img, LEN, BLOCK, rows, sizeof rows).count, 0);
+    unread(LEN, 1024, CARD_BAD_BLOCK_SIZE);
+    unread(1000, BLOCK, CARD_TO_SMALL_FOR_BACKUP);
+    unread(67 * BLOCK, BLOCK, CARD_BACKUP_LBA_TO_EARLY);
+    before[BLOCK] = img[BLOCK] ^= 1;
+    reads_both(true);
+    before[LEN - BLOCK] = img[LEN - BLOCK] ^= 1;
+    unread(LEN, BLOCK, CARD_NO_GOOD_COPY);
+    img[BLOCK] ^= 1;
+    img[LEN - BLOCK] ^= 1;
+}
+
+/* A state between the stages of an update, field by field: its struct has bytes that hold nothing. */
+static void update_at(int line, card_update u, uint32_t next, uint32_t slot, gpt_partition p, uint32_t parts) {
+    same_at(line, "next", u.next, next);
+    same_at(line, "slot", u.slot, slot);
+    same_at(line, "b", u.b, BLOCK);
+    same_at(line, "len", u.len, LEN);
+    stands_at(line, "entry", u.entry, p);
+    bytes_at(line, "guid", &u.guid, &disk, sizeof disk);
+    same_at(line, "parts", u.parts, parts);
+}
+
+/* A stage that was refused, with the slot that it names: everything else is zero, and the image is as it was. */
+static void no_stage_at(int line, card_update_step s, uint32_t number, uint32_t slot) {
+    same_at(line, "number", s.number, number);
+    same_at(line, "slot", s.slot, slot);
+    same_at(line, "place and differs", s.place | s.differs, 0);
+    same_at(line, "state", s.state.next | s.state.slot | s.state.b | s.state.len | s.state.parts, 0);
+    zeros_at(line, "entry", s.state.entry, 128);
+    zeros_at(line, "guid", &s.state.guid, 16);
+    bytes_at(line, "img", img, before, LEN);
+}
+#define NO_STAGE(step, number, slot) no_stage_at(__LINE__, step, number, slot)
+
+/* The four stages of an update of slot 128, from its first answer to the image that the plain call leaves: each changes its block alone, and the reader shows
+   the old table up to stage two and the new one from stage three on. */
+static void four_stages(int line, card_update_step s, const uint8_t *after, gpt_partition p) {
+    static const uint32_t blocks[] = {68, 69, 33, 1};
+    static uint8_t old[LEN];
+    const uint32_t parts = (uint32_t)le(after + BLOCK + 88, 4);
+    memcpy(old, before, LEN);
+    for (uint32_t stage = 1; stage <= 4; stage++) {
+        const uint8_t *shown = (stage < 3 ? old : after) + 2 * BLOCK;
+        const uint32_t place = blocks[stage - 1] * BLOCK;
+        if (stage > 1) s = card_next_stage(img, LEN, BLOCK, stage, s.state);
+        same_at(line, "number", s.number, 0);
+        same_at(line, "slot, place and differs", s.slot | s.place | s.differs, 0);
+        update_at(line, s.state, stage + 1, 128, p, parts);
+        memcpy(before + place, after + place, BLOCK);
+        bytes_at(line, "img", img, before, LEN);
+        gpt_slot_read r = card_reader_slot(img, LEN, BLOCK, 128);
+        record_at(line, "partition", r.partition, gpt_entry_from_bytes(shown + 127 * 128, 128).partition);
+    }
+    bytes_at(line, "img", img, after, LEN);
+    NO_STAGE(card_next_stage(img, LEN, BLOCK, 5, s.state), CARD_WRONG_STAGE, 0);
+}
+
+/* Slot 128 put anew and cleared by stages, and put back. */
+static void stages(void) {
+    static uint8_t after[LEN], whole[LEN];
+    gpt_partition q = some(34, 34);
+    q.name[0] = 0x51;
+    memcpy(before, img, LEN);
+    memcpy(whole, img, LEN);
+    memcpy(after, img, LEN);
+    SAME(card_put(after, LEN, BLOCK, 128, q).number, 0);
+    four_stages(__LINE__, card_start_put(img, LEN, BLOCK, 128, q), after, q);
+    SAME(card_clear(after, LEN, BLOCK, 128).number, 0);
+    four_stages(__LINE__, card_start_clear(img, LEN, BLOCK, 128), after, no_record);
+    SAME(card_put(img, LEN, BLOCK, 128, some(34, 34)).number, 0);
+    BYTES(img, whole, LEN);
+}
+
+/* Stages that are refused: the first by put's and clear's own numbers, the later ones by 1 and 26. */
+static void no_stages(void) {
+    gpt_partition twin = some(34, 34);
+    twin.part_guid = some(35, 36).part_guid;
+    memcpy(before, img, LEN);
+    NO_STAGE(card_start_put(img, LEN, 1024, 128, twin), CARD_BAD_BLOCK_SIZE, 0);
+    NO_STAGE(card_start_put(img, LEN, BLOCK, 129, twin), CARD_BAD_SLOT, 0);
+    NO_STAGE(card_start_put(img, LEN, BLOCK, 2, some(34, 35)), CARD_OVERLAP, 7);
+    NO_STAGE(card_start_put(img, LEN, BLOCK, 128, twin), CARD_TWIN_GUID, 7);
+    NO_STAGE(card_start_clear(img, 67 * BLOCK, BLOCK, 128), CARD_BACKUP_LBA_TO_EARLY, 0);
+    NO_STAGE(card_start_clear(img, LEN, BLOCK, 0), CARD_BAD_SLOT, 0);
+    const card_update good = {.next = 3, .slot = 128, .b = BLOCK, .len = LEN, .guid = disk}, none = {0};
+    card_update u = good;
+    NO_STAGE(card_next_stage(img, LEN, 1024, 3, good), CARD_BAD_BLOCK_SIZE, 0);
+    NO_STAGE(card_next_stage(img, LEN, BLOCK, 2, good), CARD_WRONG_STAGE, 0);
+    NO_STAGE(card_next_stage(img, LEN, 4096, 3, good), CARD_WRONG_STAGE, 0);
+    NO_STAGE(card_next_stage(img, LEN - 1, BLOCK, 3, good), CARD_WRONG_STAGE, 0);
+    u.slot = 129;
+    NO_STAGE(card_next_stage(img, LEN, BLOCK, 3, u), CARD_WRONG_STAGE, 0);
+    u = good;
+    u.b = 4096;
+    NO_STAGE(card_next_stage(img, LEN, 4096, 3, u), CARD_WRONG_STAGE, 0);
+    u = good;
+    u.len = 67 * BLOCK;
+    NO_STAGE(card_next_stage(img, 67 * BLOCK, BLOCK, 3, u), CARD_WRONG_STAGE, 0);
+    u = good;
+    u.next = 1;
+    NO_STAGE(card_next_stage(img, LEN, BLOCK, 1, u), CARD_WRONG_STAGE, 0);
+    NO_STAGE(card_next_stage(img, LEN, BLOCK, 0, none), CARD_WRONG_STAGE, 0);
+}
+
+/* A stage of a repair that was refused: everything but the number is zero, and the image is as it was. */
+static void no_repair_at(int line, card_repair_step s, uint32_t number) {
+    same_at(line, "number", s.number, number);
+    same_at(line, "slot, place and differs", s.slot | s.place | s.differs, 0);
+    same_at(line, "state", s.state.next | s.state.back | s.state.b | s.state.len | s.state.parts, 0);
+    zeros_at(line, "guid", &s.state.guid, 16);
+    bytes_at(line, "img", img, before, LEN);
+}
+#define NO_REPAIR(step, number) no_repair_at(__LINE__, step, number)
+
+/* A repair by its 34 stages, of a card whose table on a side has a header and an array that are no table's. The reader shows the same at each. */
+static void repaired(int line, const uint8_t *whole, bool back) {
+    const uint32_t header = (back ? 1 : BLOCKS - 1) * BLOCK, array = (back ? 2 : BLOCKS - 33) * BLOCK;
+    const card_repair want = {.back = back, .b = BLOCK, .len = LEN, .guid = disk, .parts = (uint32_t)le(whole + BLOCK + 88, 4)};
+    memset(img + header, 0xA5, BLOCK);
+    memset(img + array, 0xA5, 16384);
+    memcpy(before, img, LEN);
+    memset(before + header, 0, BLOCK);
+    card_repair_step s = card_start_repair(img, LEN, BLOCK);
+    for (uint32_t stage = 1; stage <= 34; stage++) {
+        const uint32_t place = stage == 34 ? header : array + (stage - 2) * BLOCK;
+        if (stage > 1) s = card_next_repair(img, LEN, BLOCK, stage, s.state);
+        if (stage > 1) memcpy(before + place, whole + place, BLOCK);
+        same_at(line, "number", s.number, 0);
+        same_at(line, "slot, place and differs", s.slot | s.place | s.differs, 0);
+        same_at(line, "next", s.state.next, stage + 1);
+        same_at(line, "back", s.state.back, want.back);
+        same_at(line, "b", s.state.b, want.b);
+        same_at(line, "len", s.state.len, want.len);
+        bytes_at(line, "guid", &s.state.guid, &want.guid, sizeof disk);
+        same_at(line, "parts", s.state.parts, want.parts);
+        bytes_at(line, "img", img, before, LEN);
+        same_at(line, "count", card_reader_count(img, LEN, BLOCK).count, 2);
+    }
+    bytes_at(line, "img", img, whole, LEN);
+    NO_REPAIR(card_next_repair(img, LEN, BLOCK, 35, s.state), CARD_WRONG_STAGE);
+}
+
+/* A broken back table, a broken front one, and repairs that are refused. */
+static void repairs(void) {
+    static uint8_t whole[LEN];
+    card_repair good = {.next = 2, .b = BLOCK, .len = LEN, .guid = disk}, none = {0};
+    memcpy(whole, img, LEN);
+    repaired(__LINE__, whole, false);
+    repaired(__LINE__, whole, true);
+    NO_REPAIR(card_start_repair(img, LEN, 1024), CARD_BAD_BLOCK_SIZE);
+    NO_REPAIR(card_start_repair(img, 1000, BLOCK), CARD_TO_SMALL_FOR_BACKUP);
+    NO_REPAIR(card_start_repair(img, 67 * BLOCK, BLOCK), CARD_BACKUP_LBA_TO_EARLY);
+    NO_REPAIR(card_next_repair(img, LEN, 1024, 2, good), CARD_BAD_BLOCK_SIZE);
+    NO_REPAIR(card_next_repair(img, LEN, BLOCK, 3, good), CARD_WRONG_STAGE);
+    NO_REPAIR(card_next_repair(img, LEN, 4096, 2, good), CARD_WRONG_STAGE);
+    NO_REPAIR(card_next_repair(img, LEN - 1, BLOCK, 2, good), CARD_WRONG_STAGE);
+    NO_REPAIR(card_next_repair(img, LEN, BLOCK, 0, none), CARD_WRONG_STAGE);
+    good.next = 1;
+    NO_REPAIR(card_next_repair(img, LEN, BLOCK, 1, good), CARD_WRONG_STAGE);
+    good.next = 2;
+    good.len = 67 * BLOCK;
+    NO_REPAIR(card_next_repair(img, 67 * BLOCK, BLOCK, 2, good), CARD_WRONG_STAGE);
+    memset(img + BLOCK, 0, BLOCK);
+    memset(img + LEN - BLOCK, 0, BLOCK);
+    memcpy(before, img, LEN);
+    NO_REPAIR(card_start_repair(img, LEN, BLOCK), CARD_NO_GOOD_COPY);
+    memcpy(img, whole, LEN);
 }
 
 static void payloads(void) {
@@ -781,6 +1017,10 @@ int main(void) {
     lists();
     free_ground();
     maps();
+    readers();
+    stages();
+    no_stages();
+    repairs();
     payloads();
     headers();
     sums();

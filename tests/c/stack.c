@@ -18,11 +18,13 @@
 #define PAGE 4096
 #define PAINT 0xA5
 
-static uint8_t img[LEN], was[128], is[128];
+static uint8_t img[LEN], spare[LEN], was[128], is[128];
 static card_row rows[128];
 static uint64_t starts[CARD_RUNS], lengths[CARD_RUNS];
 static gpt_partition map = {.part_type_guid = {1, 2, 3, {4}}};
 static gpt_header header, backup;
+static card_update update;
+static card_repair repair;
 static volatile uint32_t number;
 
 /* A record of one block, and with a GUID by it. */
@@ -50,6 +52,21 @@ static void map_put(void) { number = card_map_put(img, LEN, BLOCK, 64, in_block(
 static void map_clear(void) { number = card_map_clear(img, LEN, BLOCK, 64, (card_slot_map){0, 0}).answer.number; }
 static void map_lowest_free(void) { number = card_map_lowest_free((card_slot_map){1, 0}).number; }
 static void map_used(void) { number = card_map_used((card_slot_map){0, 0}); }
+static void reader_copy(void) { number = card_reader_copy(img, LEN, BLOCK).number; }
+static void reader_count(void) { number = card_reader_count(img, LEN, BLOCK).number; }
+static void reader_next(void) { number = card_reader_next(img, LEN, BLOCK, 64).number; }
+static void reader_slot(void) { number = card_reader_slot(img, LEN, BLOCK, 64).number; }
+static void reader_list(void) { number = card_reader_list(img, LEN, BLOCK, (uint8_t *)rows, sizeof rows).number; }
+static void start_put(void) { number = card_start_put(img, LEN, BLOCK, 64, in_block(162 - 64)).number; }
+static void start_clear(void) { number = card_start_clear(img, LEN, BLOCK, 64).number; }
+static void next_stage(void) { number = card_next_stage(img, LEN, BLOCK, 2, update).number; }
+static void start_repair(void) { number = card_start_repair(img, LEN, BLOCK).number; }
+static void next_repair(void) { number = card_next_repair(img, LEN, BLOCK, 2, repair).number; }
+static void last_repair(void) {
+    card_repair last = repair;
+    last.next = 34;
+    number = card_next_repair(img, LEN, BLOCK, 34, last).number;
+}
 static void crc32(void) { number = gpt_crc32(img, LEN) == 0; }
 static void crc32_next(void) { number = gpt_crc32_next(1, img, LEN) == 0; }
 static void read_primary(void) { number = gpt_read_primary_header(img, LEN, BLOCK).number; }
@@ -99,6 +116,8 @@ typedef struct kind {
 static const kind kinds[] = {
     KIND(lay), KIND(check), KIND(put), KIND(clear), KIND(payload), KIND(count_used), KIND(next_used), KIND(read_slot), KIND(nth_used), KIND(list), KIND(free_runs),
     KIND(map_make), KIND(map_put), KIND(map_clear), KIND(map_lowest_free), KIND(map_used),
+    KIND(reader_copy), KIND(reader_count), KIND(reader_next), KIND(reader_slot), KIND(reader_list),
+    KIND(start_put), KIND(start_clear), KIND(next_stage), KIND(start_repair), KIND(next_repair), KIND(last_repair),
     KIND(crc32), KIND(crc32_next), KIND(read_primary), KIND(read_backup), KIND(find_backup), KIND(parts_sum), KIND(slot_sum), KIND(write_primary),
     KIND(write_backup), KIND(build), KIND(build_new), KIND(from_bytes), KIND(to_bytes), KIND(is_used), KIND(sectors), KIND(bytes), KIND(bytes_start),
     KIND(write_entry), KIND(zero_entries), KIND(read_partition), KIND(count_partitions), KIND(next_partition), KIND(read_partitions),
@@ -113,12 +132,15 @@ static void must(bool fact, const char *what) {
     exit(EXIT_FAILURE);
 }
 
-/* Lays the card again: all 128 slots used, in descending blocks, so that the check compares each with those before it. */
+/* Lays the card again: all 128 slots used, in descending blocks, so that the check compares each with those before it. The states come from a copy of it. */
 static void fill(void) {
     lay();
     for (uint32_t slot = 1; slot <= 128; slot++) must(card_put(img, LEN, BLOCK, slot, in_block(162 - slot)).number == 0, "a put was refused");
     header = gpt_read_primary_header(img, LEN, BLOCK).header;
     backup = gpt_read_backup_header(img, LEN, BLOCK).header;
+    memcpy(spare, img, LEN);
+    update = card_start_clear(spare, LEN, BLOCK, 64).state;
+    repair = card_start_repair(spare, LEN, BLOCK).state;
 }
 
 static void *run(void *call) {

@@ -133,11 +133,15 @@ def need_own_blocks_and_guid(card, slot, record):
         raise Refused(25, "nil" if record.part_guid == NIL else "not nil", values=(twins[0],))
 
 
-def store_slot(img, card, slot, raw, b):
-    """Document 01, Put and Clear: the slot's 128 bytes in both arrays; the other slots keep their bytes, the header blocks are rewritten."""
+def with_slot(array, slot, raw):
+    """Document 01, Put and Clear: the array with the slot's 128 bytes; the other slots keep their bytes."""
     start = entries.ENTRY * (slot - 1)
-    array = card.array[:start] + raw + card.array[start + entries.ENTRY :]
-    store_tables(img, card.guid, card.last, array, b)
+    return array[:start] + raw + array[start + entries.ENTRY :]
+
+
+def store_slot(img, card, slot, raw, b):
+    """Document 01, Put and Clear: the slot's 128 bytes in both arrays; the header blocks are rewritten."""
+    store_tables(img, card.guid, card.last, with_slot(card.array, slot, raw), b)
 
 
 @call(zero=(0,), lent=(0,))
@@ -147,10 +151,9 @@ def card_check(img, b):
     return (0,)
 
 
-@call(zero=(0,), lent=(0,))
-def card_put(img, b, slot, record):
+def to_put(img, b, slot, record):
     """Document 01, Put: the check, 18, 19, 20, 21, 22; document 02, 3/13: then 25; 7/13: then 28 if the reserved part isn't
-    zero. Name units after the first zero are cleared."""
+    zero. The checked card, and the slot's new bytes; name units after the first zero are cleared."""
     card = check(img, b)
     need_slot(slot)
     if not entries.used(record):
@@ -162,16 +165,29 @@ def card_put(img, b, slot, record):
     need_own_blocks_and_guid(card, slot, record)
     if record.reserved:
         raise Refused(28, "more than 45 bits" if record.reserved >> entries.RESERVED_BITS else "45 bits")
-    store_slot(img, card, slot, entries.record_bytes(record._replace(name=entries.cleared(record.name))), b)
+    return card, entries.record_bytes(record._replace(name=entries.cleared(record.name)))
+
+
+def to_clear(img, b, slot):
+    """Document 01, Clear: the check, 18. The checked card, and the slot's new bytes, which are zeros."""
+    card = check(img, b)
+    need_slot(slot)
+    return card, bytes(entries.ENTRY)
+
+
+@call(zero=(0,), lent=(0,))
+def card_put(img, b, slot, record):
+    """Document 01, Put: it replaces what the slot held, in both arrays."""
+    card, raw = to_put(img, b, slot, record)
+    store_slot(img, card, slot, raw, b)
     return (0,)
 
 
 @call(zero=(0,), lent=(0,))
 def card_clear(img, b, slot):
-    """Document 01, Clear: the check, 18; an empty slot is accepted, its header blocks rewritten too."""
-    card = check(img, b)
-    need_slot(slot)
-    store_slot(img, card, slot, bytes(entries.ENTRY), b)
+    """Document 01, Clear: an empty slot is accepted, its header blocks rewritten too."""
+    card, raw = to_clear(img, b, slot)
+    store_slot(img, card, slot, raw, b)
     return (0,)
 
 

@@ -6,6 +6,7 @@ import headers
 import images
 import maps
 import model
+import states
 from draws import BAD_BLOCK_SIZES, ENTRY_SIZES, SLOTS
 from entries import ROW, Flags, record_from
 from sums import FRESH, crc32
@@ -230,6 +231,21 @@ def map_clear_call(draw, image, b):
     return *size_and_slot(draw, image, b), own_map(draw, image, b)
 
 
+def reader_list_call(draw, image, b):
+    """A block size and a lent row for the reader's listing."""
+    return draw.block_size(b), rows(draw, model.CALLS["card_reader_count"](image, b)[1][0])
+
+
+def next_stage_call(draw, image, b):
+    """A block size, a stage and a state of an update."""
+    return states.handed_in(draw, b, states.update(draw, image, b))
+
+
+def next_repair_call(draw, image, b):
+    """A block size, a stage and a state of a repair."""
+    return states.handed_in(draw, b, states.repair(draw, image, b))
+
+
 def size_only(draw, image, b):
     """A block size alone."""
     return (draw.block_size(b),)
@@ -260,6 +276,16 @@ ON_IMAGE = {
     "card_map_make": size_only,
     "card_map_put": map_put_call,
     "card_map_clear": map_clear_call,
+    "card_start_put": put_call,
+    "card_start_clear": size_and_slot,
+    "card_next_stage": next_stage_call,
+    "card_start_repair": size_only,
+    "card_next_repair": next_repair_call,
+    "card_reader_copy": size_only,
+    "card_reader_count": size_only,
+    "card_reader_next": size_and_slot,
+    "card_reader_slot": size_and_slot,
+    "card_reader_list": reader_list_call,
     "gpt_read_primary_header": size_only,
     "gpt_read_backup_header": size_only,
     "gpt_partentry_checksum": array_call,

@@ -71,9 +71,10 @@ def simpler_cases(case):
 
 
 def kept_widths(was, now):
-    """Whether a simpler argument still has the length that its place needs: boot code, signatures, GUID tails and names."""
+    """Whether a simpler argument still has the length that its place needs: boot code, signatures, GUID tails, names and the slot's
+    bytes in a state."""
     if isinstance(was, bytes) and isinstance(now, bytes):
-        return len(was) == len(now) or len(was) not in (4, 8, 440)
+        return len(was) == len(now) or len(was) not in (4, 8, 128, 440)
     if isinstance(was, tuple):
         return all(kept_widths(one, two) for one, two in zip(was, now))
     return True

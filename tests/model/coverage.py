@@ -4,6 +4,7 @@ documents."""
 from collections import Counter
 
 CHECK = {0, 1, 8, 10, 4, 5, 16, 6, 17}
+READER = {0, 1, 8, 10, 27}
 NUMBERS = {
     "card_lay": {0, 1, 8, 10},
     "card_check": CHECK,
@@ -21,6 +22,16 @@ NUMBERS = {
     "card_map_clear": CHECK | {18},
     "card_map_lowest_free": {0, 33},
     "card_map_used": {0},
+    "card_start_put": CHECK | {18, 19, 20, 21, 22, 25, 28},
+    "card_start_clear": CHECK | {18},
+    "card_next_stage": {0, 1, 26},
+    "card_start_repair": READER,
+    "card_next_repair": {0, 1, 26},
+    "card_reader_copy": READER,
+    "card_reader_count": READER,
+    "card_reader_next": READER,
+    "card_reader_slot": READER | {18},
+    "card_reader_list": READER | {15},
     "gpt_crc32": {0},
     "gpt_crc32_next": {0},
     "gpt_read_primary_header": {0, 1, 2, 4, 5},
@@ -87,6 +98,15 @@ PUT_STEPS = {
     (28, "45 bits"),
     (28, "more than 45 bits"),
 }
+# Which test the back failed when neither copy is good, and each cause of 26 where it is the only one.
+BACK_STEPS = {(27, f"{number} {step}") for number, step in CHECK_STEPS if number != 17 and step != "front"}
+REPAIR_STEPS = {
+    (26, "not the next stage"),
+    (26, "another block size"),
+    (26, "another length"),
+    (26, "no such stage"),
+    (26, "too short"),
+}
 PRODUCTS = {(3, step) for step in ("start product", "index product", "sum of the products", "end")}
 WRITES = {(3, "array start"), (2, "array"), (3, "own place"), (2, "own place")}
 BUILDS = {(3, "count times size"), (10, "backup too early"), (10, "first above last"), (3, "array start")}
@@ -94,6 +114,10 @@ STEPS = {
     "card_check": CHECK_STEPS,
     "card_put": CHECK_STEPS | PUT_STEPS,
     "card_free_runs": {(15, "starts"), (15, "lengths")},
+    "card_start_put": CHECK_STEPS | PUT_STEPS,
+    "card_next_stage": REPAIR_STEPS | {(26, "no such slot")},
+    "card_next_repair": REPAIR_STEPS,
+    "card_reader_copy": BACK_STEPS,
     "gpt_slot_sum": {(2, "was"), (2, "is")},
     "gpt_write_primary": WRITES,
     "gpt_write_backup": WRITES,

@@ -7,7 +7,11 @@ import fixed_flags
 import fixed_ground
 import fixed_maps
 import fixed_places
+import fixed_reader
+import fixed_repair
+import fixed_states
 import fixed_twins
+import fixed_update
 import headers
 import mbr
 from known import GUID
@@ -99,7 +103,8 @@ def card_cases(calls):
     yield "nil type", calls["card_put"](image, 512, 1, record._replace(part_type_guid=NIL))[0], 19
 
 
-REQUESTS = (*fixed_twins.GROUPS, *fixed_flags.GROUPS, *fixed_places.GROUPS, fixed_ground.ground_cases, fixed_maps.map_cases)
+PULLED = (*fixed_reader.GROUPS, *fixed_update.GROUPS, *fixed_states.GROUPS, *fixed_repair.GROUPS)
+REQUESTS = (*fixed_twins.GROUPS, *fixed_flags.GROUPS, *fixed_places.GROUPS, fixed_ground.ground_cases, fixed_maps.map_cases, *PULLED)
 GROUPS = (built_fields, small_cases, running_cases, card_cases, *REQUESTS)
 
 

@@ -71,6 +71,8 @@ def checked_calls(slot, held):
         "card_check": (B,),
         "card_put": (B, slot, held),
         "card_clear": (B, slot),
+        "card_start_put": (B, slot, held),
+        "card_start_clear": (B, slot),
         "card_write_payload": (B, slot, 0, b"map"),
         "card_count_used": (B,),
         "card_next_used": (B, 0),

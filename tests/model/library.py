@@ -9,6 +9,7 @@ import entries
 import headers
 import maps
 import mbr
+import stages
 import units
 from units import NOWHERE
 
@@ -225,6 +226,48 @@ DECLARED = {
     "gpt_mbr_write_bootcode": (STORED, LENT, BOOTCODE),
     "gpt_mbr_read_disk_signature": (SIGNATURE_READ, LENT),
     "gpt_mbr_write_disk_signature": (STORED, LENT, SIGNATURE),
+}
+
+# Document 02, 6/13: all that card.h says of the stages, the repair and the reader. Stage one of put and clear has the check's place; the
+# place of every other step is none, and the reader's answers have no field for one.
+UPDATE = structure(
+    "card_update",
+    176,
+    [
+        *fields_of(c_uint32, "next", "slot"),
+        *fields_of(c_uint64, "b", "len", start=8),
+        ("entry", c_uint8 * 128, 24),
+        ("guid", GUID, 152),
+        ("parts", c_uint32, 168),
+    ],
+    stages.Update,
+)
+REPAIR = structure(
+    "card_repair",
+    48,
+    [
+        ("next", c_uint32, 0),
+        ("back", c_uint8, 4),
+        *fields_of(c_uint64, "b", "len", start=8),
+        ("guid", GUID, 24),
+        ("parts", c_uint32, 40),
+    ],
+    stages.Repair,
+)
+UPDATE_STEP = answer("card_update_step", 192, *fields_of(c_uint32, "slot", "place", "differs", start=4), ("state", UPDATE, 16))
+REPAIR_STEP = answer("card_repair_step", 64, *fields_of(c_uint32, "slot", "place", "differs", start=4), ("state", REPAIR, 16))
+COPY = answer("card_copy", 8, ("back", c_uint8, 4))
+DECLARED |= {
+    "card_start_put": (UPDATE_STEP, LENT, c_uint64, c_uint32, PARTITION),
+    "card_start_clear": (UPDATE_STEP, LENT, c_uint64, c_uint32),
+    "card_next_stage": (UPDATE_STEP, LENT, c_uint64, c_uint32, UPDATE),
+    "card_start_repair": (REPAIR_STEP, LENT, c_uint64),
+    "card_next_repair": (REPAIR_STEP, LENT, c_uint64, c_uint32, REPAIR),
+    "card_reader_copy": (COPY, LENT, c_uint64),
+    "card_reader_count": (COUNT, LENT, c_uint64),
+    "card_reader_next": (NEXT, LENT, c_uint64, c_uint32),
+    "card_reader_slot": (SLOT_READ, LENT, c_uint64, c_uint32),
+    "card_reader_list": (COUNT, LENT, c_uint64, LENT),
 }
 
 

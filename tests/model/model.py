@@ -7,7 +7,9 @@ import ground
 import headers
 import maps
 import mbr
+import reader
+import stages
 import sums
 
-PARTS = (card, ground, maps, sums, headers, builder, entries, mbr)
+PARTS = (card, ground, maps, stages, reader, sums, headers, builder, entries, mbr)
 CALLS = {name: function for part in PARTS for name, function in vars(part).items() if hasattr(function, "lent")}

@@ -6,6 +6,7 @@ import cases
 import coverage
 import library
 import model
+import states
 from draws import Draw
 from units import NOWHERE
 
@@ -22,6 +23,8 @@ def wrong_values(rounds=100):
             (library.SETTINGS, draw.settings(512)),
             (library.RECORD, draw.mbr_record()),
             (library.MBR, draw.mbr()),
+            (library.UPDATE, states.update(draw, bytes(rounds), 512)),
+            (library.REPAIR, states.repair(draw, bytes(rounds), 4096)),
         ):
             back = library.plain(kind, library.native(kind, value))
             if back != value:

@@ -1,5 +1,5 @@
 """The Python module beside what it promises: which buffers it takes, what it refuses before the library is called, that a refused call changes no byte,
-that nothing large is copied, and where it finds the library. It ends with "python: N tests ok", or with exit status 1.
+that nothing large is copied, what a cut between the stages leaves, and where it finds the library. It ends with "python: N tests ok", or with exit status 1.
 """
 import array
 import concurrent.futures
@@ -18,6 +18,7 @@ import sys
 import tempfile
 import tracemalloc
 import unittest
+import unittest.mock
 import uuid
 import zlib
 
@@ -344,6 +345,188 @@ class Sums(unittest.TestCase):
     def test_large_bytes_are_not_copied(self):
         with large_image() as (_, image), little_memory(self):
             self.assertEqual(card.crc32_next(0, image), zlib.crc32(image))
+
+
+def stages(image, size, state, go_on):
+    """The image after each stage, the first one made already, and the state after the last. A stage changes no block but the one that its state names."""
+    images = [bytes(image)]
+    for stage in range(2, state.stages() + 1):
+        state = go_on(image, size, stage, state)
+        images.append(bytes(image))
+        place = state.block(stage) * size
+        if images[-2][:place] + images[-1][place:place + size] + images[-2][place + size:] != images[-1]:
+            raise AssertionError(f"stage {stage} changed another block than {state.block(stage)}")
+    return images, state
+
+
+def shown(image, size=512):
+    """The slots and names that the reader shows."""
+    return [(entry.slot, entry.record.name) for entry in card.reader_listing(image, size)]
+
+
+class Pulled(unittest.TestCase):
+    """The stages of a put, a clear and a repair on an image, and the reader between them."""
+
+    CARDS = ((512, 70, 34), (4096, 15, 6))
+
+    def whole(self, size, blocks, usable):
+        image = laid(blocks, size)
+        card.put(image, size, 33, record(usable, usable))
+        return image
+
+    def updates(self, usable):
+        """Each kind of update: how it begins, the plain call, and what the reader shows of the new table."""
+        other, more = record(usable, usable + 1, "other"), record(usable + 1, usable + 1, "more")
+        return ((lambda image, size: card.start_put(image, size, 33, other), lambda image, size: card.put(image, size, 33, other), [(33, "other")]),
+                (lambda image, size: card.start_put(image, size, 128, more), lambda image, size: card.put(image, size, 128, more), [(33, "map"), (128, "more")]),
+                (lambda image, size: card.start_clear(image, size, 33), lambda image, size: card.clear(image, size, 33), []))
+
+    def test_an_update_shows_the_old_table_or_the_new_one(self):
+        for size, blocks, usable in self.CARDS:
+            for start, plain, new in self.updates(usable):
+                image, after = self.whole(size, blocks, usable), self.whole(size, blocks, usable)
+                plain(after, size)
+                images, state = stages(image, size, start(image, size), card.next_stage)
+                self.assertEqual([shown(data, size) for data in images], [[(33, "map")], [(33, "map")], new, new])
+                self.assertEqual((bytes(image), state.next, state.stages()), (bytes(after), 5, 4))
+                self.assertRaisesRegex(card.Refused, "refused 26, WrongStage: the state does not lead to this stage", card.next_stage, image, size, 5, state)
+
+    def test_the_plain_calls_answer_by_the_check_between_the_stages(self):
+        image = filled()
+        images, _ = stages(image, 512, card.start_put(image, 512, 5, record(50, 50)), card.next_stage)
+        said = []
+        for data in images:
+            try:
+                card.check(data, 512)
+                said.append(0)
+            except card.Refused as refusal:
+                said.append((refusal.number, refusal.place, refusal.differs))
+        self.assertEqual(said, [(6, card.BACK, 0), (17, card.SLOT, 5), (6, card.FRONT, 0), 0])
+
+    def test_the_reader_takes_the_front_else_the_back(self):
+        image = filled()
+        self.assertEqual((card.reader_copy(bytes(image), 512), shown(bytes(image))), (card.FRONT, [(3, "map")]))
+        image[2 * 512] ^= 1
+        self.assertEqual((card.reader_copy(image, 512), shown(image)), (card.BACK, [(3, "map")]))
+        image[67 * 512] ^= 1
+        for data, size, number in ((image, 512, 27), (image, 1024, 1), (image[:1024], 512, 8), (image[:67 * 512], 512, 10)):
+            for call in (card.reader_copy, card.reader_listing, card.start_repair):
+                with self.assertRaises(card.Refused) as caught:
+                    call(data, size)
+                self.assertEqual((caught.exception.number, caught.exception.place), (number, card.NOWHERE))
+
+    def test_a_repair_never_changes_what_the_reader_shows(self):
+        for size, blocks, usable in self.CARDS:
+            whole = bytes(self.whole(size, blocks, usable))
+            array = 16384 // size
+            for back, header, first in ((False, blocks - 1, blocks - 1 - array), (True, 1, 2)):
+                image = bytearray(whole)
+                image[header * size:header * size + size] = b"\xa5" * size
+                image[first * size:first * size + 16384] = b"\x5a" * 16384
+                images, state = stages(image, size, card.start_repair(image, size), card.next_repair)
+                self.assertEqual(({tuple(shown(data, size)) for data in images}, bytes(image)), ({((33, "map"),)}, whole))
+                self.assertEqual((state.back, state.stages(), state.next, state.guid), (back, array + 2, array + 3, DISK))
+                self.assertRaisesRegex(card.Refused, "refused 26", card.next_repair, image, size, state.next, state)
+
+    def test_a_stage_that_is_not_the_next_changes_nothing(self):
+        image = filled()
+        state = card.start_put(image, 512, 5, record(50, 50))
+        before = bytes(image)
+        for stage, changed in ((3, {}), (0, {}), (1, {"next": 1}), (2, {"slot": 0}), (2, {"slot": 129}), (2, {"block_size": 4096}), (2, {"length": 100 * 512 + 1}), (5, {"next": 5})):
+            self.assertRaisesRegex(card.Refused, "refused 26", card.next_stage, image, 512, stage, card.replace(state, **changed))
+        self.assertRaisesRegex(card.Refused, "refused 1,", card.next_stage, image, 513, 2, state)
+        self.assertRaisesRegex(card.Refused, "refused 26", card.next_stage, image + b"x", 512, 2, state)
+        self.assertRaisesRegex(ValueError, "128", card.next_stage, image, 512, 2, card.replace(state, entry=bytes(127)))
+        self.assertRaisesRegex(ValueError, "does not fit", card.next_stage, image, 512, 1 << 32, state)
+        self.assertRaisesRegex(ValueError, "does not fit", card.next_stage, image, 512, 2, card.replace(state, length=1 << 64))
+        self.assertEqual(image, before)
+        self.assertEqual(pickle.loads(pickle.dumps(state)), state)
+
+    def test_a_refused_start_changes_nothing(self):
+        image = filled()
+        before = bytes(image)
+        for number, slot, call in ((18, 0, lambda: card.start_clear(image, 512, 129)), (22, 3, lambda: card.start_put(image, 512, 1, record(41, 50))),
+                                   (25, 3, lambda: card.start_put(image, 512, 1, record(50, 50, guid=uuid.UUID(int=40))))):
+            with self.assertRaises(card.Refused) as caught:
+                call()
+            self.assertEqual((caught.exception.number, caught.exception.slot), (number, slot))
+        for call in (lambda: card.start_put(before, 512, 1, record(50, 50)), lambda: card.start_clear(before, 512, 3), lambda: card.start_repair(before, 512)):
+            self.assertRaisesRegex(TypeError, "the image is read-only", call)
+        self.assertEqual(image, before)
+
+
+class PulledFiles(unittest.TestCase):
+    """The stages on a file, cut after each of them."""
+
+    def setUp(self):
+        self.path = pathlib.Path(tempfile.mkdtemp()) / "card"
+        self.addCleanup(shutil.rmtree, self.path.parent)
+        self.path.write_bytes(filled())
+
+    def test_a_cut_update_is_the_old_table_or_the_new_one(self):
+        for call in (lambda stop: card.put_staged(self.path, 512, 5, record(50, 50, "new"), stop), lambda stop: card.clear_staged(self.path, 512, 3, stop)):
+            whole = filled()
+            self.path.write_bytes(whole)
+            call(None)
+            new = self.path.read_bytes()
+            card.check(new, 512)
+            for stop in range(5):
+                self.path.write_bytes(whole)
+                call(stop)
+                self.assertEqual(shown(self.path.read_bytes()), shown(new if stop > 2 else whole))
+                card.repair_staged(self.path, 512)
+                card.check(self.path.read_bytes(), 512)
+                self.assertEqual(self.path.read_bytes(), new if stop > 2 else whole)
+
+    def test_a_cut_repair_shows_the_same(self):
+        for broken in (512, 99 * 512):
+            for stop in range(35):
+                image = filled()
+                image[broken] ^= 1
+                self.path.write_bytes(image)
+                card.repair_staged(self.path, 512, stop)
+                self.assertEqual(shown(self.path.read_bytes()), [(3, "map")])
+            self.assertEqual(self.path.read_bytes(), bytes(filled()))
+
+    def test_each_block_is_flushed_before_the_next(self):
+        made = []
+        with unittest.mock.patch("os.pwrite", lambda file, data, place: made.append((place, len(data))) or len(data)), \
+                unittest.mock.patch("os.fsync", lambda file: made.append("flushed")):
+            card.put_staged(self.path, 512, 5, record(50, 50))
+        self.assertEqual(made, [(68 * 512, 512), "flushed", (99 * 512, 512), "flushed", (3 * 512, 512), "flushed", (512, 512), "flushed"])
+        self.assertEqual(self.path.read_bytes(), bytes(filled()))
+
+    def test_a_device_that_takes_less_is_asked_again(self):
+        real = os.pwrite
+        with unittest.mock.patch("os.pwrite", lambda file, data, place: real(file, data[:100], place)):
+            card.clear_staged(self.path, 512, 3)
+        cleared = filled()
+        card.clear(cleared, 512, 3)
+        self.assertEqual(self.path.read_bytes(), bytes(cleared))
+
+    def test_a_device_that_fails_leaves_the_old_table_or_the_new_one(self):
+        real = os.fsync
+        for fails in range(1, 5):
+            self.path.write_bytes(filled())
+            left = iter(range(fails - 1, -1, -1))
+            with unittest.mock.patch("os.fsync", lambda file: real(file) if next(left) else os.close(-1)):
+                self.assertRaises(OSError, card.clear_staged, self.path, 512, 3)
+            self.assertEqual(shown(self.path.read_bytes()), [] if fails > 2 else [(3, "map")])
+
+    def test_files_that_are_no_card(self):
+        self.assertRaisesRegex(card.Refused, "refused 22", card.put_staged, self.path, 512, 1, record(40, 40))
+        self.assertEqual(self.path.read_bytes(), bytes(filled()))
+        self.path.write_bytes(b"")
+        self.assertRaisesRegex(card.Refused, "refused 8", card.clear_staged, self.path, 512, 1)
+        self.assertRaisesRegex(card.Refused, "refused 1,", card.repair_staged, self.path, 513)
+        self.path.write_bytes(bytes(68 * 512))
+        self.assertRaisesRegex(card.Refused, "refused 27", card.repair_staged, self.path, 512)
+        self.assertRaises(FileNotFoundError, card.repair_staged, self.path.parent / "none", 512)
+
+    def test_a_large_card_is_not_read_into_memory(self):
+        with large_image() as (file, image), little_memory(self):
+            card.put_staged(f"/proc/self/fd/{file.fileno()}", 512, 2, record(34 + LARGE // 512, 34 + LARGE // 512))
+            self.assertEqual([entry.slot for entry in card.listing(image, 512)], [1, 2])
 
 
 class Refusals(unittest.TestCase):

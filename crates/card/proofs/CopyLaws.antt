@@ -14,7 +14,7 @@ use Rattle.units.specs.Guids.{guidAt, guidBytes}
 use Rattle.units.specs.Held.{Small}
 use Rattle.units.proofs.Lists.{length-part, part-part, part-out, part-same, sets-all, sets-left, sets-right, sets-comm, lent-part}
 use Rattle.units.proofs.Laws.{num-part}
-use Rattle.units.proofs.GuidLaws.{guid-bytes-back}
+use Rattle.units.proofs.GuidLaws.{guid-part, guid-bytes-back}
 use Rattle.crc32.specs.Crc.{crc}
 use Rattle.slot_sum.specs.SlotSum.{sumAfter}
 use Rattle.slot_sum.proofs.Laws.{sum-stored}
@@ -30,7 +30,7 @@ use Rattle.tables.proofs.HeaderLaws.{block-long, passed}
 use Rattle.tables.proofs.Good.{Good, room-ok, slot-ok, check-good, card-whole}
 use Rattle.tables.proofs.ReadCheck.{head-part}
 use Rattle.tables.proofs.Copies.{copies-tables, guid-of, header-fits, array-fits}
-use Rattle.card.specs.Calls.{changedCopy, changed}
+use Rattle.card.specs.Calls.{KeptGuid, changedCopy, changed}
 use Rattle.card.proofs.LayWays.{head-block}
 
 -- two tables are the same by their parts
@@ -86,13 +86,15 @@ copy-changed B s ys h e k l lh le o = copy-stored B s ys h e (128 * k) l lh (ome
 -- ---- the GUID and the sum that the code reads
 
 pub guid-kept : (B : ℕ) (s : Side) (ys : List ℕ) {at : ℕ} {g : Guid} → at ≡ headerIn s → 92 ≤ B → length ys ≡ B + 16384 → Small ys → g ≡ guidAt ys (at + 56)
-    → guidBytes g ≡ guidOf (copyIn B s ys)
+    → KeptGuid (copyIn B s ys) g
 guid-kept B s ys {at} {g} a h l b e =
     let f : headerIn s + B ≤ length ys = header-fits B s ys l in
-    ap guidBytes e
-    ∙ ap (λ (i : ℕ). guidBytes (guidAt ys (i + 56))) a
-    ∙ guid-bytes-back ys (headerIn s + 56) (omega arith) b
-    ∙ sym (guid-of B s ys h)
+    let k : g ≡ guidAt ys (headerIn s + 56) = e ∙ ap (λ (i : ℕ). guidAt ys (i + 56)) a in
+    let z : headerIn s + 56 + 0 ≡ headerIn s + 56 = omega arith in
+    record {
+      fields = k ∙ sym (ap (λ (l : List ℕ). guidAt l 0) (guid-of B s ys h) ∙ guid-part ys (headerIn s + 56) 16 0 (omega arith) ∙ ap (guidAt ys) z);
+      bytes = ap guidBytes k ∙ guid-bytes-back ys (headerIn s + 56) (omega arith) b ∙ sym (guid-of B s ys h);
+    }
 
 -- the sum in a header that passes is that of the array
 pub sum-held : (B n : ℕ) (s : Side) (ys : List ℕ) {at v : ℕ} → at ≡ headerIn s → 92 ≤ B → tableCheck B n s (copyIn B s ys) .number ≡ 0 → v ≡ num ys (at + 88) 4

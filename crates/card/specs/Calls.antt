@@ -1,5 +1,6 @@
 -- What the card calls answer, and the image that they leave. What a call refuses by is a function of the image's length, the block size and the two tables.
 -- From document 01, "The card calls": lay, put, clear, payload write; 25 from document 02, 3/13; 28 from 7/13. Assumes nothing.
+use mathlib.Core.Path.{_≡_}
 use mathlib.Core.Bool.{false, not, _||_}
 use mathlib.Core.List.{List}
 use Prim.Native.Nat.{ℕ, _+_, _*_, _-_}
@@ -10,7 +11,7 @@ use Rattle.units.specs.declared.Guid.{Guid}
 use Rattle.units.specs.declared.BytePlace.{BytePlace}
 use Rattle.units.specs.declared.why.Why.{Why}
 use Rattle.units.specs.Answer.{Answer, plain, ofSlot, when, orElse, judged, pick, Outcome, settle}
-use Rattle.units.specs.Guids.{guidBytes}
+use Rattle.units.specs.Guids.{guidAt, guidBytes}
 use Rattle.partition.specs.declared.Partition.{Partition}
 use Rattle.partition.specs.Format.{entryBytes, tidied}
 use Rattle.mbr.specs.Format.{mbrBytes, fresh}
@@ -126,6 +127,11 @@ clearOutcome B xs s = clearAt B (length xs) xs s
 
 abbrev pub payloadOutcome : ℕ → List ℕ → ℕ → ℕ → List ℕ → Outcome (Answer ℕ)
 payloadOutcome B xs s p ys = payloadAt B (length xs) xs s p ys
+
+-- a GUID is the one in a table's header: by its fields, and by its sixteen bytes
+pub record KeptGuid (c : Copy) (g : Guid) : Type 0 where
+  pub fields : g ≡ guidAt (guidOf c) 0
+  pub bytes : guidBytes g ≡ guidOf c
 
 -- a table with array place k changed, under a header's block h
 abbrev pub changedCopy : Copy → ℕ → List ℕ → List ℕ → Copy

@@ -17,13 +17,12 @@ ghost use lib.Seq.{sets};
 ghost use Rattle.units.proofs.Chains.{found};
 ghost use Rattle.units.specs.Answer.{ofSlot, when, orElse};
 ghost use Rattle.units.specs.Bytes.{part};
-ghost use Rattle.units.specs.Guids.{guidBytes};
 ghost use Rattle.crc32.specs.Crc.{crc};
 ghost use Rattle.crc32.specs.Rows.{Rows};
 ghost use Rattle.tables.specs.Lens.{Front, sideOf, copyIn, tables, withTables};
 ghost use Rattle.tables.specs.Entries.{setEntry, used, firstOf, lastOf};
-ghost use Rattle.tables.specs.Check.{roomCheck, tableCheck, guidOf, check, badSlot};
-ghost use Rattle.card.specs.Calls.{recordCheck, firstOverlap, overlapCheck, twinCheck, flagCheck, entryCheck, putCheck, changedBytes, changed};
+ghost use Rattle.tables.specs.Check.{roomCheck, tableCheck, check, badSlot};
+ghost use Rattle.card.specs.Calls.{recordCheck, firstOverlap, overlapCheck, twinCheck, flagCheck, entryCheck, putCheck, KeptGuid, changedBytes, changed};
 
 // 18 no such slot, 19 nil type, 20 last before first, 21 outside the usable blocks.
 fn record_check(e: &[u8], slot: Slot, len: usize, b: u64) -> Why
@@ -176,9 +175,9 @@ pub fn put_check<'a>(
 }
 
 // The disk GUID in a copy's header.
-fn kept_guid(copy: &[u8], b: u64, back: bool) -> Guid
+pub fn kept_guid(copy: &[u8], b: u64, back: bool) -> Guid
     requires { ⌜ (92 ≤ b) × (length (now copy) ≡ b + 16384) ⌝ }
-    ensures { λ r. ⌜ guidBytes r ≡ guidOf (copyIn b (sideOf back) (now (copy .entry))) ⌝ }
+    ensures { λ r. ⌜ KeptGuid (copyIn b (sideOf back) (now (copy .entry))) r ⌝ }
 {
     let at = tables::inner::header_in(back);
     units::inner::guid_at(copy, at.0 + 56)
@@ -272,16 +271,16 @@ fn change_at<'a>(
 }
 
 // The disk GUID of the front table, in an image or in whatever begins like one.
-fn front_guid(s: &[u8], b: u64) -> Guid
+pub fn front_guid(s: &[u8], b: u64) -> Guid
     requires { ⌜ (92 ≤ b) × (b ≤ 4096) × (b + (b + 16384) ≤ length (now s)) ⌝ }
-    ensures { λ r. ⌜ guidBytes r ≡ guidOf (copyIn b Front (part (now (s .entry)) b (b + 16384))) ⌝ }
+    ensures { λ r. ⌜ KeptGuid (copyIn b Front (part (now (s .entry)) b (b + 16384))) r ⌝ }
 {
     let size = b as usize;
     kept_guid(&s[size..size + (size + 16384)], b, false)
 }
 
 // The front array's sum once a slot has other bytes.
-fn front_sum<'a>(
+pub fn front_sum<'a>(
     t: &'a [u32; 4096],
     s: &'a [u8],
     len: usize,

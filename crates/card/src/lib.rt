@@ -1,6 +1,6 @@
 // The card: both tables laid, checked, changed and listed together, and payload written inside a partition. What each call promises is in specs/Calls.
 // Here stand the public calls: each takes every image and every number.
-mod changing; // changing.rt: what put tests, and what put and clear store
+pub mod changing; // changing.rt: what put tests, and what put and clear store; leaves for our own crates, no public calls
 mod laying; // laying.rt: what lay stores
 mod payload; // payload.rt: what a payload write tests, and where it stores
 

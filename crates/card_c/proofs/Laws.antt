@@ -6,7 +6,7 @@ use Prim.Native.Nat.{ℕ, _/_, _≤_, _<_}
 use borrow.Author.Tests.{lt-ltb, le-ltb}
 use lib.ListN.{length}
 use Rattle.units.specs.declared.why.Why.{Why}
-use Rattle.units.specs.Answer.{Answer, accepted, refused, refuse, fine, andThen, Beside, beside, Outcome, Ends}
+use Rattle.units.specs.Answer.{Answer, accepted, refused, refuse, fine, andThen, Beside, beside, Outcome, gives, Ends}
 use Rattle.partition.specs.Format.{entryAt}
 use Rattle.rows.specs.declared.Entry.{Entry}
 use Rattle.rows.specs.declared.inner.Plan.{Plan}
@@ -57,6 +57,11 @@ module _ {A S : Type 0} (make : CardAnswer → A → S) (z : A) where
   unfolding asideAt beside crossedAt
   aside-card (accepted x) = refl
   aside-card (refused w) = refl
+
+  -- a call that ends in an outcome whose value stands beside the verdict ends in the outcome so told
+  pub told-beside : (o : Outcome (Answer A)) {a : Beside A} {r : S} {i : List ℕ}
+      → Ends (gives (beside z (o .answer)) (o .image)) a i → r ≡ asideAt make a → Ends (outcomeToC (crossedAt make z) o) r i
+  told-beside o e q = record { answer = q ∙ ap (asideAt make) (e .answer) ∙ aside-card (o .answer); image = e .image }
 
 -- and of a map that is made, zero beside a refusal
 module _ (a : Answer (List Bool)) where

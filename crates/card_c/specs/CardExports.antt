@@ -10,12 +10,16 @@ use Rattle.units.specs.declared.Place.the-variants as place
 use Rattle.units.specs.declared.why.Why.{Why}
 use Rattle.units.specs.Answer.{Answer, accepted, refused, fine, andThen, Beside}
 use Rattle.units.specs.Meanings.{cardMeans}
+use Rattle.units.specs.Guids.{nilGuid}
 use Rattle.partition.specs.Array.{Found}
 use Rattle.partition.specs.Format.{zeroPartition}
 use Rattle.listing.specs.Listing.{Listed}
 use Rattle.listing.specs.Meanings.{Used, firstUsed}
 use Rattle.slot_map.specs.declared.Carried.{Carried}
 use Rattle.slot_map.specs.Bits.{mapOf}
+use Rattle.staged.specs.declared.Update.{Update}
+use Rattle.staged.specs.declared.Repair.{Repair}
+use Rattle.staged.specs.Meanings.{zeroUpdate}
 use Rattle.card_c.specs.declared.answers.CardAnswer.{CardAnswer}
 use Rattle.card_c.specs.declared.answers.CardStored.{CardStored}
 use Rattle.card_c.specs.declared.answers.CardCount.{CardCount}
@@ -24,6 +28,8 @@ use Rattle.card_c.specs.declared.answers.CardSlotRead.{CardSlotRead}
 use Rattle.card_c.specs.declared.answers.CardUsedRead.{CardUsedRead}
 use Rattle.card_c.specs.declared.maps.CardMapMade.{CardMapMade}
 use Rattle.card_c.specs.declared.maps.CardCarried.{CardCarried}
+use Rattle.card_c.specs.declared.pulled.CardUpdateStep.{CardUpdateStep}
+use Rattle.card_c.specs.declared.pulled.CardRepairStep.{CardRepairStep}
 
 -- the number of a place, and the slot that differs
 abbrev pub placeNumber : Place → ℕ
@@ -109,3 +115,20 @@ pub record MadeToC (a : Answer (List Bool)) (o : CardMapMade) : Type 0 where
 -- a map is handed on as it is
 abbrev pub carriedToC : Carried → CardCarried
 carriedToC r = record { answer = answerToC (cardMeans (r .verdict)); map = r .map }
+
+-- ---- the stages of the pulled card: the state for the next stage, zero beside a refusal
+
+abbrev pub updateMade : CardAnswer → Update → CardUpdateStep
+updateMade k u = record { number = k .number; slot = k .slot; place = k .place; differs = k .differs; state = u }
+
+abbrev pub updateToC : Answer Update → CardUpdateStep
+updateToC a = crossedAt updateMade zeroUpdate a
+
+abbrev pub zeroRepair : Repair
+zeroRepair = record { next = 0; back = false; b = 0; len = 0; guid = nilGuid; parts = 0 }
+
+abbrev pub repairMade : CardAnswer → Repair → CardRepairStep
+repairMade k r = record { number = k .number; slot = k .slot; place = k .place; differs = k .differs; state = r }
+
+abbrev pub repairToC : Answer Repair → CardRepairStep
+repairToC a = crossedAt repairMade zeroRepair a

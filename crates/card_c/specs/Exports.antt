@@ -1,5 +1,5 @@
 -- What C gets for each answer of the ported calls: document 01's number first, 0 for accepted, then the values; beside a refusal each of them is zero. Assumes nothing.
-use mathlib.Core.Bool.{true, false}
+use mathlib.Core.Bool.{Bool, true, false}
 use mathlib.Core.List.{List, [], _∷_}
 use Prim.Native.Nat.{ℕ}
 use lib.Dec.{ltb}
@@ -21,6 +21,7 @@ use Rattle.mbr.specs.Changing.{Changed}
 use Rattle.partition.specs.declared.Partition.{Partition}
 use Rattle.partition.specs.Array.{Found}
 use Rattle.partition.specs.Format.{entryAt, zeroPartition}
+use Rattle.tables.specs.Lens.{Side, Front, Back}
 use Rattle.ground.specs.Answers.{Rows}
 use Rattle.card_c.specs.declared.answers.GptStored.{GptStored}
 use Rattle.card_c.specs.declared.answers.GptCount.{GptCount}
@@ -40,6 +41,7 @@ use Rattle.card_c.specs.declared.mbrs.GptRecordRead.{GptRecordRead}
 use Rattle.card_c.specs.declared.mbrs.GptRecordSet.{GptRecordSet}
 use Rattle.card_c.specs.declared.mbrs.GptBootcodeRead.{GptBootcodeRead}
 use Rattle.card_c.specs.declared.mbrs.GptSignatureRead.{GptSignatureRead}
+use Rattle.card_c.specs.declared.pulled.CardCopy.{CardCopy}
 
 -- an outcome with its answer told in another way
 abbrev pub outcomeToC : {A C : Type 0} → (A → C) → Outcome A → Outcome C
@@ -77,6 +79,14 @@ heldToC a = crossed heldMade (record { present = false; partition = zeroPartitio
 -- the lowest free slot of a map; 33 names no place
 abbrev pub freeToC : Answer Slot → GptNext
 freeToC a = crossed (λ k s. record { number = k; slot = s .0 }) (record { 0 = 0 }) a
+
+-- the table that the reader takes
+abbrev pub isBack : Side → Bool
+isBack Front = false
+isBack Back = true
+
+abbrev pub copyToC : Answer Side → CardCopy
+copyToC a = crossed (λ k s. record { number = k; back = isBack s }) Front a
 
 -- ---- headers
 

@@ -1,6 +1,6 @@
 // The library's calls for C and for whatever links as C does: include/card.h has their prototypes. Numbers, slices and #[repr(C)] structs cross, and a slice
 // crosses as a pointer and a length. Each export is one proved call and the way its
-// answer is told to C; card_list, gpt_file_read_partitions and gpt_entry_from_bytes are made of leaves.
+// answer is told to C; card_list, card_reader_list, gpt_file_read_partitions and gpt_entry_from_bytes are made of leaves.
 mod answers; // answers.rt: the structs that come back, and how each answer becomes one
 mod building; // building.rt: the header builder
 mod cards; // cards.rt: the card calls
@@ -9,3 +9,4 @@ mod grounds; // grounds.rt: the free ground
 mod headers; // headers.rt: headers and the check sum
 mod maps; // maps.rt: the slot map
 mod mbrs; // mbrs.rt: the protective MBR
+mod pulled; // pulled.rt: the reader of a pulled card, and put, clear and repair in stages

@@ -72,3 +72,23 @@ withTables B xs t = withTablesAt B (length xs) xs t
 -- byte i lies in neither table
 abbrev pub OutsideTables : ℕ → ℕ → ℕ → Type 0
 OutsideTables B n i = ((i < B) ⊎ (B + B + 16384 ≤ i)) × ((i < backArray B n) ⊎ (backHeader B n + B ≤ i))
+
+-- ---- one table of the two, and the tables with another in its place
+
+abbrev pub other : Side → Side
+other Front = Back
+other Back = Front
+
+abbrev pub copyAt : Side → Tables → Copy
+copyAt Front t = t .front
+copyAt Back t = t .back
+
+abbrev pub withCopy : Side → Copy → Tables → Tables
+withCopy Front c t = record { front = c; back = t .back }
+withCopy Back c t = record { front = t .front; back = c }
+
+abbrev pub withHeader : Side → List ℕ → Tables → Tables
+withHeader s h t = withCopy s (record { header = h; array = copyAt s t .array }) t
+
+abbrev pub withArray : Side → List ℕ → Tables → Tables
+withArray s a t = withCopy s (record { header = copyAt s t .header; array = a }) t

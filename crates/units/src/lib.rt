@@ -19,6 +19,7 @@ pub struct Lba(pub u64);
 pub struct BytePlace(pub usize);
 
 // An entry's slot, counted from 1. Its array place counts from 0.
+#[repr(C)]
 pub struct Slot(pub u32);
 
 // Why a call refuses, by the names of documents 01 and 02. Overlap carries the lowest other slot that shares a block, TwinGuid the lowest other slot with that GUID.

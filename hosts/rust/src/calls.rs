@@ -160,12 +160,19 @@ pub fn get(image: &[u8], block_size: BlockSize, slot: u32) -> Result<Option<Reco
 ///
 /// Refused as [`check`] is.
 pub fn list(image: &[u8], block_size: BlockSize) -> Result<Listing, Refused> {
+    rows(|out, out_len| {
+        // SAFETY: each pointer and length are those of one slice; the rows are new, so `image` is not inside them, and their structs take every byte.
+        let answer = unsafe { ffi::card_list(image.as_ptr(), image.len(), block_size.bytes(), out, out_len) };
+        accepted(answer.number, 0, answer.place, answer.differs)?;
+        Ok(answer.count)
+    })
+}
+
+/// Lends new rows for all slots to a call, as a pointer and a length in bytes, which says how many it filled.
+pub(crate) fn rows(fill: impl FnOnce(*mut u8, usize) -> Result<u32, Refused>) -> Result<Listing, Refused> {
     let mut rows = vec![ffi::card_row::ZERO; SLOTS as usize];
-    let (out, out_len) = (rows.as_mut_ptr().cast::<u8>(), size_of_val(rows.as_slice()));
-    // SAFETY: each pointer and length are those of one slice; `rows` is new, so `image` is not inside it, and its structs take every byte.
-    let answer = unsafe { ffi::card_list(image.as_ptr(), image.len(), block_size.bytes(), out, out_len) };
-    accepted(answer.number, 0, answer.place, answer.differs)?;
-    rows.truncate(answer.count as usize);
+    let count = fill(rows.as_mut_ptr().cast::<u8>(), size_of_val(rows.as_slice()))?;
+    rows.truncate(count as usize);
     Ok(Listing { rows: rows.into_iter() })
 }
 

@@ -71,6 +71,11 @@ structs! {
     card_slot_map 16 { 0 low: u64, 8 high: u64 }
     card_map_made 32 { 0 number: u32, 4 place: u32, 8 differs: u32, 16 map: card_slot_map }
     card_carried 32 { 0 answer: card_answer, 16 map: card_slot_map }
+    card_copy 8 { 0 number: u32, 4 back: u8 }
+    card_update 176 { 0 next: u32, 4 slot: u32, 8 b: u64, 16 len: usize, 24 entry: [u8; 128], 152 guid: gpt_guid, 168 parts: u32 }
+    card_update_step 192 { 0 number: u32, 4 slot: u32, 8 place: u32, 12 differs: u32, 16 state: card_update }
+    card_repair 48 { 0 next: u32, 4 back: u8, 8 b: u64, 16 len: usize, 24 guid: gpt_guid, 40 parts: u32 }
+    card_repair_step 64 { 0 number: u32, 4 slot: u32, 8 place: u32, 12 differs: u32, 16 state: card_repair }
     gpt_header_read 96 { 0 number: u32, 8 header: gpt_header }
     gpt_block 16 { 0 number: u32, 8 lba: u64 }
     gpt_sum 8 { 0 number: u32, 4 sum: u32 }
@@ -107,6 +112,16 @@ functions! {
     fn card_map_clear(img: *mut u8, img_len: usize, b: u64, slot: u32, map: card_slot_map) -> card_carried;
     fn card_map_lowest_free(map: card_slot_map) -> gpt_next;
     fn card_map_used(map: card_slot_map) -> u32;
+    fn card_reader_copy(img: *const u8, img_len: usize, b: u64) -> card_copy;
+    fn card_reader_count(img: *const u8, img_len: usize, b: u64) -> gpt_count;
+    fn card_reader_next(img: *const u8, img_len: usize, b: u64, after: u32) -> gpt_next;
+    fn card_reader_slot(img: *const u8, img_len: usize, b: u64, slot: u32) -> gpt_slot_read;
+    fn card_reader_list(img: *const u8, img_len: usize, b: u64, out: *mut u8, out_len: usize) -> gpt_count;
+    fn card_start_put(img: *mut u8, img_len: usize, b: u64, slot: u32, partition: gpt_partition) -> card_update_step;
+    fn card_start_clear(img: *mut u8, img_len: usize, b: u64, slot: u32) -> card_update_step;
+    fn card_next_stage(img: *mut u8, img_len: usize, b: u64, stage: u32, state: card_update) -> card_update_step;
+    fn card_start_repair(img: *mut u8, img_len: usize, b: u64) -> card_repair_step;
+    fn card_next_repair(img: *mut u8, img_len: usize, b: u64, stage: u32, state: card_repair) -> card_repair_step;
     fn gpt_crc32(bytes: *const u8, bytes_len: usize) -> u32;
     fn gpt_crc32_next(running: u32, bytes: *const u8, bytes_len: usize) -> u32;
     fn gpt_read_primary_header(img: *const u8, img_len: usize, b: u64) -> gpt_header_read;

@@ -1,7 +1,7 @@
 //! Cards with a GPT table, as safe Rust over the proved calls of libcard.
 //!
 //! A card is an image of bytes: a protective MBR, a front table, usable blocks, and a back table that says the same as the front one.
-//! A table has 128 slots, counted from 1. [`Card`] lends an image to the calls; nothing is read from or written to a device.
+//! A table has 128 slots, counted from 1. [`Card`] lends an image to the calls; nothing is read from or written to a device but by [`tables_of`] and [`Staged::store_on`].
 //!
 //! ```
 //! use card::{BlockSize, Card, Guid, Record};
@@ -21,7 +21,9 @@
 //! ```
 //!
 //! Every call takes every image and every number. It ends, and accepts or says by [`Refused`] why it does not, and where the card check refused; a refused call changes no byte of the image.
-//! That is proved of the library; that this crate hands the bytes over rightly is not proved, but tested. The ported calls on headers, entries and the MBR are
+//! People pull cards in the middle of an update: a put or a clear that may be cut goes by [`Card::start_put`] and [`Card::start_clear`], see [`Staged`]. A card that
+//! was cut is read by [`reader_list`] and mended by [`start_repair`].
+//! All this is proved of the library; that this crate hands the bytes over rightly is not proved, but tested. The ported calls on headers, entries and the MBR are
 //! in [`ffi`], as C has them. [`crc32_next`] is the check sum of bytes that come in pieces.
 //!
 //! A program takes the crate by its path, `card = { path = "../dirozhal/hosts/rust" }`, and needs no registry. The crate links `libcard.a`, which `make lib`
@@ -35,6 +37,7 @@ mod calls;
 pub mod ffi;
 mod guid;
 mod maps;
+mod pulled;
 mod record;
 mod refusal;
 #[cfg(test)]
@@ -44,5 +47,6 @@ mod repository;
 pub use calls::{check, crc32_next, free_runs, get, list, BlockSize, Card, Listing, FRESH, SLOTS};
 pub use guid::{Guid, GuidError};
 pub use maps::SlotMap;
+pub use pulled::{reader_copy, reader_get, reader_list, start_repair, tables_of, Staged, Store, Table};
 pub use record::{Entry, Flags, Name, NameError, Record};
 pub use refusal::{Place, Refusal, Refused};

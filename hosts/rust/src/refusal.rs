@@ -4,7 +4,7 @@ use std::{error, fmt};
 /// Declares the refusals of the table once: their numbers, names and meanings. 22 and 25 stand beside them, since they carry a slot.
 macro_rules! refusals {
     ($($number:literal $name:ident: $meaning:literal,)*) => {
-        /// Why a call was refused. A refused call changed no byte of the image. Of the numbers from 26 on a call gives 28 and 33 alone yet: each other one comes with its change request.
+        /// Why a call was refused. A refused call changed no byte of the image. Of the numbers from 29 on a call gives 33 alone yet: each other one comes with its change request.
         #[derive(Clone, Copy, Debug, PartialEq, Eq, Hash)]
         pub enum Refusal {
             $(#[doc = concat!(stringify!($number), ": ", $meaning, ".")] $name,)*
@@ -88,7 +88,7 @@ refusals! {
     21 OutsideUsable: "a block outside the usable ones",
     23 EmptySlot: "the slot is not used",
     24 PastPartition: "the bytes pass the partition's end",
-    26 WrongStage: "the stage is not the next one of this update",
+    26 WrongStage: "the state does not lead to this stage of this card",
     27 NoGoodCopy: "neither table of the card can be read",
     28 ReservedFlag: "a flag that UEFI keeps reserved",
     29 BadHeaderSize: "the header's stated size is below 92 or above the block size",

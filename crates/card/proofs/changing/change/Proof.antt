@@ -60,7 +60,7 @@ returns c =
     let s = o .before .before .before in
     let a = s .args in
     image-changed (a .b) (a .img .now) (k .change-at .last .1 .0) (two .change-at2 .last .1 .0) (a .e .now) (a .slot .0) (g .front-guid .result) (p .front-sum .result) (s .pre .1 .0) (s .pre .1 .1 .0) (s .pre .1 .1 .1)
-    (g .front-guid .ensures) (p .front-sum .ensures) (o .back-place .ensures .0) (k .change-at .ensures) (two .change-at2 .ensures)
+    (g .front-guid .ensures .bytes) (p .front-sum .ensures) (o .back-place .ensures .0) (k .change-at .ensures) (two .change-at2 .ensures)
 
 pub change-spec : {M : Type 1} → statement M
 change-spec = tie.close (tie.spec back-place-requires front-guid-requires front-sum-requires change-at-requires change-at-requires-2 same-length returns)

@@ -1,12 +1,12 @@
 -- `card::changing::front_guid` meets its contract. Assumes nothing.
-use mathlib.Core.Path.{ap, _∙_}
+use mathlib.Core.Path.{subst}
 use mathlib.Core.List.{List}
 use Prim.Native.Nat.{ℕ, _+_}
 use native.Mathlib.Omega.{arith}
 use borrow.Author.Needs.{needs}
 use Rattle.units.proofs.Lists.{lent-part, length-lent}
-use Rattle.tables.specs.Check.{guidOf}
 use Rattle.tables.specs.Lens.{copyIn, Front}
+use Rattle.card.specs.Calls.{KeptGuid}
 use Rattle.card.proofs.changing.front_guid.Statement.{statement}
 use Rattle.card.proofs.changing.front_guid.Tie as tie
 
@@ -33,7 +33,7 @@ kept-guid-requires c κs =
 returns : tie.Need-returns
 returns c =
     let a = c .before .before .before .args in
-    c .kept-guid .ensures ∙ ap (λ (y : List ℕ). guidOf (copyIn (a .b) Front y)) (lent-part (a .s .now) (a .b) (a .b + 16384))
+    subst (λ (y : List ℕ). KeptGuid (copyIn (a .b) Front y) (c .kept-guid .result)) (lent-part (a .s .now) (a .b) (a .b + 16384)) (c .kept-guid .ensures)
 
 pub front-guid-spec : {M : Type 1} → statement M
 front-guid-spec = tie.close (tie.spec add-kept-guid add-kept-guid-2 sub-kept-guid part-kept-guid-start part-kept-guid-end kept-guid-requires returns)

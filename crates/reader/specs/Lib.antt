@@ -1,0 +1,3 @@
+-- What the reader shows, and what its answers mean.
+pub mod Reader
+pub mod Meanings
