@@ -9,7 +9,7 @@ LOG ?= target/gate.log
 # The scripts take these from the environment.
 export CC CFLAGS LDFLAGS PREFIX DESTDIR
 
-.PHONY: help demo sums test gate-times deps outside programs bench lib install uninstall install-test boundary example lister-test python rust documents interop differential differential-slips scripts-test boundary-valgrind rust-outside race model cuts cuts-quick firmware firmware-quick edits clean
+.PHONY: help demo sums test gate-times deps outside programs bench lib install uninstall install-test boundary example lister-test python rust documents interop differential differential-slips scripts-test boundary-valgrind rust-outside race model writers cuts cuts-quick firmware firmware-quick edits clean
 
 # Two runs of rt in one repository write the same files, so with -j, too, one target is made after the other.
 .NOTPARALLEL:
@@ -170,11 +170,15 @@ model: lib
 	python3 tests/model/run.py --alone --seed 1 --cases 75000
 	python3 tests/model/run.py $(if $(SEED),--seed $(SEED)) --seconds $(or $(SECONDS),30)
 
+# Makes the same calls on two files that have one table and other tiles, and compares every answer and both tables (tests/writers). Variables: SEED, CALLS.
+writers: lib
+	python3 tests/writers/run.py $(if $(SEED),--seed $(SEED)) $(if $(CALLS),--calls $(CALLS))
+
 # Pulls cards in files: cuts updates and repairs after every stage at every slot, and at 10,000 random places (tests/cuts). Variables: SEED, CUTS.
 cuts: lib
 	python3 tests/cuts/run.py $(if $(SEED),--seed $(SEED)) --cuts $(or $(CUTS),10000)
 
-# Makes some hundreds of these cuts.
+# Makes some thousand of these cuts.
 cuts-quick: lib
 	python3 tests/cuts/run.py --quick $(if $(SEED),--seed $(SEED))
 

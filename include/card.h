@@ -70,7 +70,7 @@ enum card_number {
     CARD_EMPTY_SLOT = 23,              /* the slot is not used */
     CARD_PAST_PARTITION = 24,          /* the bytes pass the partition's end */
     CARD_TWIN_GUID = 25,               /* a partition GUID that another used slot has; the answer names the lowest such slot */
-    CARD_WRONG_STAGE = 26,             /* the state does not lead to this stage of this card */
+    CARD_WRONG_STAGE = 26,             /* the state does not lead to this stage on an image of this length and block size */
     CARD_NO_GOOD_COPY = 27,            /* neither table of the card can be read */
     CARD_RESERVED_FLAG = 28,           /* a flag that UEFI keeps reserved */
     /* Of the numbers from 29 on a call gives 33 alone yet: each other one comes with its change request. */

@@ -98,6 +98,7 @@ run boundary-valgrind "every call across the boundary, under valgrind" x86-64 cc
 run python "the Python module's example" x86-64 python3 cc
 run race "calls beside a second writer" x86-64 python3 cc
 run model "every call beside a model from the documents" x86-64 python3 cc
+run writers "two writers on one card" x86-64 python3 cc
 run cuts-quick "cards cut between stages" x86-64 python3 cc
 run rust "the Rust crate's tests" x86-64 cargo cc
 run install-test "installed and used from there" x86-64 cc install

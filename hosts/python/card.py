@@ -62,7 +62,7 @@ exactly the new one: the old one up to stage two, the new one from stage three o
 >>> next_stage(image, 512, 4, state)
 Traceback (most recent call last):
   ...
-card.Refused: refused 26, WrongStage: the state does not lead to this stage of this card
+card.Refused: refused 26, WrongStage: the state does not lead to this stage on an image of this length and block size
 >>> image[512:1024] = bytes(512)
 >>> reader_copy(image, 512) == BACK
 True
@@ -117,7 +117,7 @@ NUMBERS = {
     23: ("EmptySlot", "the slot is not used"),
     24: ("PastPartition", "the bytes pass the partition's end"),
     25: ("TwinGuid", "a partition GUID that another used slot has"),
-    26: ("WrongStage", "the state does not lead to this stage of this card"),
+    26: ("WrongStage", "the state does not lead to this stage on an image of this length and block size"),
     27: ("NoGoodCopy", "neither table of the card can be read"),
     28: ("ReservedFlag", "a flag that UEFI keeps reserved"),
     # Of the numbers from 29 on a call gives 33 alone yet: each other one comes with its change request.

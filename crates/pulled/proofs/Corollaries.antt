@@ -8,10 +8,10 @@ use Prim.Native.Nat.{ℕ, _+_, _-_, _^_, _≤_, _<_}
 use native.Mathlib.Omega.{arith}
 use borrow.Author.Tests.{le-leb}
 use lib.Dec.{eqb, ltb}
-use lib.ListN.{length}
+use lib.ListN.{length, take}
 use Rattle.units.specs.declared.Guid.{Guid}
 use Rattle.units.specs.declared.why.Why.{Why}
-use Rattle.units.specs.Answer.{accepted, refused, refuse, placed, pick, judged}
+use Rattle.units.specs.Answer.{accepted, refused, refuse, plain, placed, pick, when, orElse, judged}
 use Rattle.units.specs.Guids.{guidBytes}
 use Rattle.units.specs.Held.{Small, GuidHeld}
 use Rattle.units.proofs.Chains.{judged-none, judged-zero}
@@ -26,9 +26,9 @@ use Rattle.rows.proofs.Laws.{length-map}
 use Rattle.tables.specs.Places.{arrayBlocks}
 use Rattle.tables.specs.Lens.{Front, Back, Tables, sideOf, copyAt, tablesAt, withTablesAt, tables, other}
 use Rattle.tables.specs.Entries.{zeros}
-use Rattle.tables.specs.Check.{check, slotCheck, checkAnswer}
+use Rattle.tables.specs.Check.{check, badSlot, slotCheck, checkAnswer}
 use Rattle.card.specs.Calls.{changed, putCheck, putAt, clearAt, putBytes, layOutcome}
-use Rattle.history.specs.History.{Op, call, run, told, emptySlot, filledFrom, Card}
+use Rattle.history.specs.History.{Op, call, run, told, toldByte, emptySlot, filledFrom, Card}
 use Rattle.tables.proofs.Room.{Room}
 use Rattle.tables.proofs.LensLaws.{Whole, whole-tables, length-with, get-put}
 use Rattle.tables.proofs.EntryLaws.{length-zeros}
@@ -36,14 +36,14 @@ use Rattle.tables.proofs.Good.{room-ok, check-good}
 use Rattle.history.proofs.State.{accepted-image}
 use Rattle.history.proofs.Changes.{put-ok, clear-check, clear-slot}
 use Rattle.listing.specs.Listing.{Listed}
-use Rattle.reader.specs.Reader.{passes, none, table, tableOf, shown, readerCheck, takenSide, takenArray, readerRead}
+use Rattle.reader.specs.Reader.{passes, none, table, tableOf, shown, readerCheck, takenSide, takenArray, sideAnswer, readerCount, readerNext, readerSlotCheck, heldIn, readerSlot, readerRead}
 use Rattle.reader.proofs.LentRow.{read-within}
 use Rattle.pulled.specs.Shows.{entriesOf, shownEntries}
 use Rattle.staged.specs.declared.Update.{Update}
 use Rattle.staged.specs.Stages.{fixed, afterStages}
 use Rattle.staged.specs.Repairs.{repairOf}
 use Rattle.staged.specs.Stores.{stored, repairStored}
-use Rattle.pulled.specs.Life.{Event, called, putStages, clearStages, repairStages, happens, live, toldBy, mends, wholeAfter, Lived}
+use Rattle.pulled.specs.Life.{Event, called, putStages, clearStages, repairStages, happens, live, toldBy, toldByteBy, mends, wholeAfter, Lived}
 use Rattle.pulled.proofs.Readers.{bytes-of}
 use Rattle.pulled.proofs.Cuts.{after-4}
 use Rattle.pulled.proofs.Repairs.{reader-room}
@@ -127,6 +127,11 @@ pub told-plain : (B : ℕ) (os : List Op) (xs : List ℕ) (k : ℕ) (x : Found) 
 unfolding toldBy told
 told-plain B [] xs k x = refl
 told-plain B (o ∷ os) xs k x = told-plain B os (call B o xs .image) k _
+
+pub byte-plain : (B : ℕ) (os : List Op) (xs : List ℕ) (slots : ℕ → Found) (i x : ℕ) → toldByteBy B (map called os) xs slots i x ≡ toldByte B os xs slots i x
+unfolding toldByteBy toldByte
+byte-plain B [] xs slots i x = refl
+byte-plain B (o ∷ os) xs slots i x = byte-plain B os (call B o xs .image) _ i _
 
 pub whole-plain : (B : ℕ) (b : Bool) (os : List Op) (xs : List ℕ) → wholeAfter B b (map called os) xs ≡ b
 unfolding wholeAfter
@@ -227,3 +232,39 @@ reader-row B g es laid y m =
     sym (read-within B xs m)
     ∙ ap (roomed m) (judged-none _ w z ∙ ap accepted rows)
     ∙ ap (λ (n : ℕ). pick (ltb m n) (refuse 15) (accepted (map rowEntry filled))) (length-map rowEntry filled)
+
+-- ---- the reader's other answers are those of the table that is shown
+
+-- what it says of an image, for the disk GUID and the array that it shows: the table that it takes has them, and its answers are by that array
+pub record Says (B : ℕ) (xs g arr : List ℕ) : Type 0 where
+  pub side : sideAnswer B xs ≡ accepted (takenSide B (length xs) (tables B xs))
+  pub taken : tableOf (copyAt (takenSide B (length xs) (tables B xs)) (tables B xs)) ≡ table g arr
+  pub count : readerCount B xs ≡ accepted (length (presentFrom arr 0 0 128))
+  pub next : (k : ℕ) → readerNext B xs k ≡ accepted (take 1 (presentFrom arr 0 k (128 - k)))
+  pub slot : (s : ℕ) → readerSlot B xs s ≡ judged (when (badSlot s) (plain 18)) (heldIn arr s)
+
+table-taken : (B n : ℕ) (t : Tables) (g arr : List ℕ) → shown B n t ≡ table g arr → tableOf (copyAt (takenSide B n t) t) ≡ table g arr
+unfolding shown
+table-taken B n t g arr h = by (passes B n Front (t .front)) (passes B n Back (t .back)) h
+  where
+    by : (p q : Bool) → pick p (tableOf (t .front)) (pick q (tableOf (t .back)) none) ≡ table g arr → tableOf (copyAt (sideOf (not p)) t) ≡ table g arr
+    by true q e = e
+    by false true e = e
+    by false false e = let z : _≡_ {A = ℕ} 0 1 = cc in absurd (omega arith)
+
+slot-said : (B n : ℕ) (t : Tables) (s : ℕ) (x : Found) → readerCheck B n t .number ≡ 0 → judged (readerSlotCheck B n t s) x ≡ judged (when (badSlot s) (plain 18)) x
+unfolding readerSlotCheck orElse
+slot-said B n t s x z = rw z
+
+pub reader-says : (B : ℕ) (xs g arr : List ℕ) → readerCheck B (length xs) (tables B xs) .number ≡ 0 → shown B (length xs) (tables B xs) ≡ table g arr → Says B xs g arr
+reader-says B xs g arr z h =
+    let n : ℕ = length xs in
+    let t : Tables = tables B xs in
+    let e : takenArray B (length xs) (tables B xs) ≡ arr = taken-shown B n t g arr h in
+    record {
+      side = judged-none _ (readerCheck B n t) z;
+      taken = table-taken B n t g arr h;
+      count = judged-none _ (readerCheck B n t) z ∙ ap (λ (a : List ℕ). accepted (length (presentFrom a 0 0 128))) e;
+      next = λ k. judged-none _ (readerCheck B n t) z ∙ ap (λ (a : List ℕ). accepted (take 1 (presentFrom a 0 k (128 - k)))) e;
+      slot = λ s. slot-said B n t s _ z ∙ ap (λ (a : List ℕ). judged (when (badSlot s) (plain 18)) (heldIn a s)) e;
+    }

@@ -24,7 +24,7 @@ use Rattle.tables.specs.Headers.{copyOf, cardOf}
 use Rattle.tables.specs.Check.{roomCheck, guidOf, check, slotCheck}
 use Rattle.listing.specs.Listing.{presentSlots}
 use Rattle.card.specs.Calls.{putCheck, putAt, clearAt, payloadCheck, usedCheck, payloadAt, changed, putBytes, layOutcome}
-use Rattle.history.specs.History.{Op, put, clear, payload, taken, doneAt, run, emptySlot, after, afterByte, toldByte, filledFrom}
+use Rattle.history.specs.History.{Op, put, clear, payload, taken, doneAt, run, emptySlot, after, afterByte, toldByte, filledFrom, arrayOf}
 use Rattle.tables.proofs.Orders.{by-test}
 use Rattle.tables.proofs.Room.{Room}
 use Rattle.tables.proofs.LensLaws.{Whole, whole-tables, length-with, get-put, with-byte}
@@ -33,7 +33,7 @@ use Rattle.tables.proofs.Good.{Good, room-ok, check-good, good-check, card-good
 use Rattle.history.proofs.State.{held-back, write-state, State, state-check, state-guid, state-front}
 use Rattle.history.proofs.Changes.{small-zeros, put-ok, clear-check, clear-slot}
 use Rattle.history.proofs.Records.{held-named, small-record, tidied-is, length-put}
-use Rattle.history.proofs.Steps.{Kept, Holds, small-array, step, lay-holds}
+use Rattle.history.proofs.Steps.{Kept, Holds, array-told, small-array, step, lay-holds}
 use Rattle.history.proofs.Others.{bytes-told}
 use Rattle.history.proofs.Listings.{lists-held}
 use Rattle.history.proofs.Demand.{card-of}
@@ -442,6 +442,14 @@ lists-kept {B} {n} {g} {xs} {slots} h =
     let k : Holds B n g slots ys = record { array = h .array; state = st; guid = h .sound .guid .back; kept = h .kept; places = h .places } in
     ap entriesOf (sym (state-front st)) ∙ lists-held k
 
+-- both tables are lay's headers over the told array
+tables-told : {B n m : ℕ} {g xs : List ℕ} {slots : ℕ → Found} (h : Holds B n g slots xs) → n ≡ m → tablesAt B m xs ≡ cardOf B m g (arrayOf slots)
+tables-told {B} {n} {m} {g} {xs} {slots} h e =
+    ap (λ (k : ℕ). tablesAt B k xs) (sym e)
+    ∙ h .state .tables
+    ∙ ap (λ (a : List ℕ). cardOf B n g a) (array-told h)
+    ∙ ap (λ (k : ℕ). cardOf B k g (arrayOf slots)) e
+
 module _ (B : ℕ) (xs : List ℕ) (g : Guid) (es : List Event) (a : layOutcome B xs g .answer ≡ accepted tt) (gh : GuidHeld g) (fits : length xs < 2 ^ 64) where
   abbrev laid : List ℕ
   laid = layOutcome B xs g .image
@@ -482,6 +490,7 @@ module _ (B : ℕ) (xs : List ℕ) (g : Guid) (es : List Event) (a : layOutcome 
         reader = judged-none _ _ (reads-shown B (length now) (tablesAt B (length now) now) (guidBytes g) (last .array) (last .room) shows)
             ∙ ap accepted (ap shownEntries shows ∙ lists-kept last);
         card = λ c. card-of g (keeps-holds last (judged-zero tt _ tt c)) gh (omega (arith, live-length));
+        tables = λ c. tables-told (keeps-holds last (judged-zero tt _ tt c)) (live-length ∙ sym l);
         whole = λ m.
             judged-none tt _
             (subst (λ (m : ℕ). check B m (tablesAt B m now) .number ≡ 0) (sym live-length)

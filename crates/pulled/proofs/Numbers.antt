@@ -23,6 +23,8 @@ use Rattle.tables.proofs.EntryLaws.{length-zeros}
 use Rattle.tables.proofs.Good.{room-ok, slot-ok, check-good}
 use Rattle.history.proofs.State.{State, state-check, lay-done}
 use Rattle.history.proofs.Changes.{small-zeros}
+use Rattle.checking.proofs.CheckWays as checks
+use Rattle.card.proofs.ChangeWays.{put-good}
 use Rattle.reader.specs.Reader.{readerCheck}
 use Rattle.staged.specs.declared.Update.{Update}
 use Rattle.staged.specs.declared.Repair.{Repair}
@@ -86,7 +88,20 @@ goes-on u xs k r a b lo hi =
     store : (k : ℕ) → stageStore (u .b) (u .len) u (k + 1) (stored (u .b) (u .len) u k xs) ≡ stored (u .b) (u .len) u (k + 1) xs
     store k = let e : k + 1 ≡ suc k = omega arith in rw e
 
--- ---- 26 is given no more often than said: each slot, block size and length that leads to a stage is one that an accepted stage one leads to, as a clear of its slot on
+-- what it asks for is what an accepted stage one has tested
+pub put-goes : (B n : ℕ) (xs : List ℕ) (s : ℕ) (e : List ℕ) (reserved : ℕ) → putCheck B n (tablesAt B n xs) s e reserved .number ≡ 0 → (roomCheck B n .number ≡ 0) × (1 ≤ s) × (s ≤ 128)
+put-goes B n xs s e reserved h =
+    let k = put-good B n (tablesAt B n xs) s e reserved h in
+    let i = slot-ok s (k .1) in
+    (check-good B n (tablesAt B n xs) (k .0) .room, i .0, omega (arith, i .0, i .1))
+
+pub clear-goes : (B n : ℕ) (xs : List ℕ) (s : ℕ) → slotCheck B n (tablesAt B n xs) s .number ≡ 0 → (roomCheck B n .number ≡ 0) × (1 ≤ s) × (s ≤ 128)
+clear-goes B n xs s h =
+    let k = checks.slot-good B n (tablesAt B n xs) s h in
+    let i = slot-ok s (k .1) in
+    (check-good B n (tablesAt B n xs) (k .0) .room, i .0, omega (arith, i .0, i .1))
+
+-- ---- 26 lets nothing more through: each slot, block size, length and stage that a later stage accepts is one that an accepted stage one leads to, as a clear of its slot on
 -- a freshly laid image
 
 zeros-held : Held (zeros 16)
@@ -99,12 +114,12 @@ fresh-check B n r few =
     (q .size, state-check q few (zeros-held .held) (small-zeros 16384))
 
 pub reached : (B n k : ℕ) (u : Update) → n < 2 ^ 64 → nextCheck B n k u .number ≡ 0
-    → (length (layAt B n (zeros n) (zeros 16) .image) ≡ n) × (slotCheck B n (tablesAt B n (layAt B n (zeros n) (zeros 16) .image)) (u .slot .0) .number ≡ 0)
+    → (2 ≤ k) × (k ≤ 4) × (length (layAt B n (zeros n) (zeros 16) .image) ≡ n) × (slotCheck B n (tablesAt B n (layAt B n (zeros n) (zeros 16) .image)) (u .slot .0) .number ≡ 0)
 unfolding slotCheck
 reached B n k u few h =
     let d = next-leads B n k u h in
     let q = fresh-check B n (d .room) few in
-    (q .0, else-none _ _ (q .1) (when-none _ (plain 18) (slot-good (u .slot .0) (d .one) (d .most))))
+    (d .low, d .high, q .0, else-none _ _ (q .1) (when-none _ (plain 18) (slot-good (u .slot .0) (d .one) (d .most))))
 
 -- ---- repair
 
@@ -143,12 +158,14 @@ repair-goes-on r xs k rm lo hi =
 
 -- a state that leads to a stage of a repair is one that an accepted stage one leads to, as on a freshly laid image
 pub reached-repair : (B n k : ℕ) (r : Repair) → n < 2 ^ 64 → nextRepairCheck B n k r .number ≡ 0
-    → (length (layAt B n (zeros n) (zeros 16) .image) ≡ n) × (readerCheck B n (tablesAt B n (layAt B n (zeros n) (zeros 16) .image)) .number ≡ 0)
+    → (2 ≤ k) × (k ≤ arrayBlocks B + 2) × (length (layAt B n (zeros n) (zeros 16) .image) ≡ n) × (readerCheck B n (tablesAt B n (layAt B n (zeros n) (zeros 16) .image)) .number ≡ 0)
 reached-repair B n k r few h =
     let d = repair-leads B n k r h in
     let xs : List ℕ = layAt B n (zeros n) (zeros 16) .image in
     let q = fresh-check B n (d .room) few in
     let g = check-good B n (tablesAt B n (layAt B n (zeros n) (zeros 16) .image)) (q .1) in (
+      d .low,
+      d .high,
       q .0,
       reads-shown B n (tablesAt B n xs) _ _ (d .room) (shown-front B n (tablesAt B n xs) (zero-passes B n Front (tablesAt B n xs .front) (g .front) (g .entries))),
     )

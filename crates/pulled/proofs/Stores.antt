@@ -26,7 +26,7 @@ use Rattle.staged.specs.declared.Update.{Update}
 use Rattle.staged.specs.declared.Repair.{Repair}
 use Rattle.staged.specs.Stages.{slotStage, headerStage, stage, afterStages}
 use Rattle.staged.specs.Repairs.{mended, zeroStage, blockStage, repairStage, afterRepair}
-use Rattle.reader.specs.Reader.{arrayPlace}
+use Rattle.reader.specs.Reader.{arrayBytePlace}
 use Rattle.staged.specs.Stores.{headerPlace, slotStore, headerStore, stageStore, stored, slotBlock, stageBlock, zeroStore, blockStore, repairStore, repairStored, repairBlock}
 use Rattle.pulled.proofs.Images.{is-with, put-get, put-put}
 use Rattle.pulled.proofs.Repairs.{blocks-whole}
@@ -37,7 +37,7 @@ unfolding backHeader
 side-place B n Front r = omega arith
 side-place B n Back r = refl
 
-array-place : (B n : ℕ) (s : Side) → Room B n → (arrayStart B n s * B ≡ arrayPlace B n s) × (arrayPlace B n s + 16384 + B ≤ n)
+array-place : (B n : ℕ) (s : Side) → Room B n → (arrayStart B n s * B ≡ arrayBytePlace B n s) × (arrayBytePlace B n s + 16384 + B ≤ n)
 array-place B n Front r = (omega arith, omega (arith, r .low, r .seam, r .top))
 array-place B n Back r = (r .last, omega (arith, r .seam, r .top))
 
@@ -109,7 +109,7 @@ module _ (B n : ℕ) (r : Room B n) (xs : List ℕ) (l : length xs ≡ n) where
       (back-only (backHeader B n) h (omega (arith, r .seam)) (omega arith))
 
   pub array-stored : (s : Side) (o : ℕ) (e : List ℕ) → o + length e ≤ 16384
-      → sets xs (arrayPlace B n s + o) e ≡ withTablesAt B n xs (withArray s (sets (copyAt s t .array) o e) t)
+      → sets xs (arrayBytePlace B n s + o) e ≡ withTablesAt B n xs (withArray s (sets (copyAt s t .array) o e) t)
   unfolding tablesAt
   array-stored Front o e h =
       is-with B n r xs (sets xs (B + B + o) e) _ l
@@ -197,7 +197,7 @@ module _ (B n : ℕ) (r : Room B n) (u : Update) (f : Fit u) where
       ∙ put-put B n r xs l a (stage B n u (suc k) a) wa (stage-whole a wa (suc k))
 
   -- a slot's bytes lie in one block
-  slot-in : (s : Side) → (slotBlock B n s (u .slot .0) * B ≤ arrayPlace B n s + 128 * (u .slot .0 - 1)) × (arrayPlace B n s + 128 * (u .slot .0 - 1) + length (u .entry) ≤ slotBlock B n s (u .slot .0) * B + B)
+  slot-in : (s : Side) → (slotBlock B n s (u .slot .0) * B ≤ arrayBytePlace B n s + 128 * (u .slot .0 - 1)) × (arrayBytePlace B n s + 128 * (u .slot .0 - 1) + length (u .entry) ≤ slotBlock B n s (u .slot .0) * B + B)
   slot-in s =
       let q = inside B (good-size B (r .good)) (u .slot .0 - 1) in
       let e : slotBlock B n s (u .slot .0) * B ≡ arrayStart B n s * B + 128 * (u .slot .0 - 1) / B * B = add-mul (arrayStart B n s) (128 * (u .slot .0 - 1) / B) B in
@@ -232,7 +232,7 @@ module _ (B n : ℕ) (r : Room B n) (u : Repair) where
       omega (arith, blocks-whole B n r)
 
   block-part : (xs : List ℕ) → length xs ≡ n → (s : Side) (j : ℕ) → j < arrayBlocks B
-      → part xs (arrayPlace B n s + j * B) B ≡ part (copyAt s (tablesAt B n xs) .array) (j * B) B
+      → part xs (arrayBytePlace B n s + j * B) B ≡ part (copyAt s (tablesAt B n xs) .array) (j * B) B
   unfolding tablesAt
   block-part xs l Front j h = sym (part-part xs (B + B) 16384 (j * B) B (block-fits j h))
   block-part xs l Back j h = sym (part-part xs (backArray B n) 16384 (j * B) B (block-fits j h))
@@ -253,7 +253,7 @@ module _ (B n : ℕ) (r : Room B n) (u : Repair) where
       let e : List ℕ = part (copyAt (other (mended u)) (tablesAt B n xs) .array) (j * B) B in
       let le : length e ≡ B = length-part _ (j * B) B (omega (arith, block-fits j h, array-long (tablesAt B n xs) (whole-tables B n r xs l) (other (mended u)))) in
       rw q
-      (ap (λ (x : List ℕ). sets xs (arrayPlace B n (mended u) + j * B) x) (block-part xs l (other (mended u)) j h)
+      (ap (λ (x : List ℕ). sets xs (arrayBytePlace B n (mended u) + j * B) x) (block-part xs l (other (mended u)) j h)
       ∙ array-stored B n r xs l (mended u) (j * B) e (omega (arith, block-fits j h))))
       (λ q.
       by-test (eqb j (arrayBlocks B))
@@ -311,12 +311,12 @@ module _ (B n : ℕ) (r : Room B n) (u : Repair) where
       let a = array-place B n (mended u) r in
       let b = array-place B n (other (mended u)) r in
       let e : (arrayStart B n (mended u) + j) * B ≡ arrayStart B n (mended u) * B + j * B = add-mul (arrayStart B n (mended u)) j B in
-      let lp : length (part xs (arrayPlace B n (other (mended u)) + j * B) B) ≡ B = length-part xs (arrayPlace B n v + j * B) B (omega (arith, block-fits j h, b .1)) in
+      let lp : length (part xs (arrayBytePlace B n (other (mended u)) + j * B) B) ≡ B = length-part xs (arrayBytePlace B n v + j * B) B (omega (arith, block-fits j h, b .1)) in
       let o2 : Outside ((arrayStart B n (mended u) + j) * B) B i = rw q at o in
-      let ys : List ℕ = part xs (arrayPlace B n (other (mended u)) + j * B) B in
-      let low : (arrayStart B n (mended u) + j) * B ≤ arrayPlace B n (mended u) + j * B = omega (arith, a .0) in
-      let high : arrayPlace B n (mended u) + j * B + length ys ≤ (arrayStart B n (mended u) + j) * B + B = omega (arith, a .0) in
-      rw q (getD-out xs (arrayPlace B n (mended u) + j * B) ys i (apart _ _ _ _ i low high o2)))
+      let ys : List ℕ = part xs (arrayBytePlace B n (other (mended u)) + j * B) B in
+      let low : (arrayStart B n (mended u) + j) * B ≤ arrayBytePlace B n (mended u) + j * B = omega (arith, a .0) in
+      let high : arrayBytePlace B n (mended u) + j * B + length ys ≤ (arrayStart B n (mended u) + j) * B + B = omega (arith, a .0) in
+      rw q (getD-out xs (arrayBytePlace B n (mended u) + j * B) ys i (apart _ _ _ _ i low high o2)))
       (λ q.
       let o2 : Outside (ownBlock B n (mended u) * B) B i = rw q at o in
       rw q

@@ -16,9 +16,10 @@ use Rattle.partition.specs.Held.{PartitionHeld}
 use Rattle.tables.specs.Places.{arrayBlocks}
 use Rattle.tables.specs.Lens.{tables, tablesAt, OutsideTables}
 use Rattle.tables.specs.Entries.{zeros, entry}
+use Rattle.tables.specs.Headers.{cardOf}
 use Rattle.tables.specs.Check.{slotCheck, checkAnswer}
 use Rattle.card.specs.Calls.{putCheck, putBytes}
-use Rattle.history.specs.History.{Op, put, clear, Done, doneAt, emptySlot, filledFrom, after, afterByte, Card}
+use Rattle.history.specs.History.{Op, put, clear, Done, doneAt, emptySlot, filledFrom, after, afterByte, arrayOf, Card}
 use Rattle.reader.specs.Reader.{table, shown, readerCheck}
 use Rattle.pulled.specs.Shows.{readerAnswer}
 use Rattle.staged.specs.Stages.{fixed}
@@ -102,6 +103,8 @@ pub record Lived (B : ℕ) (g : Guid) (es : List Event) (laid : List ℕ) : Type
   pub reader : readerAnswer B (live B es laid) ≡ accepted (filledFrom (λ (s : ℕ). toldBy B es laid s emptySlot) 0 128)
   -- where the check accepts, it is a card as demand 3 has it; and it accepts whenever the last update was finished or a finished repair came after the last cut
   pub card : checkAnswer B (live B es laid) ≡ accepted tt → Card B g (λ (s : ℕ). toldBy B es laid s emptySlot) (live B es laid)
+  -- both tables are then, byte for byte, the headers that lay writes for the GUID, and the array of these slots
+  pub tables : checkAnswer B (live B es laid) ≡ accepted tt → tablesAt B (length laid) (live B es laid) ≡ cardOf B (length laid) (guidBytes g) (arrayOf (λ (s : ℕ). toldBy B es laid s emptySlot))
   pub whole : wholeAfter B true es laid ≡ true → checkAnswer B (live B es laid) ≡ accepted tt
   -- a byte in neither table is what the last accepted payload write over it gave; with none it is as it was
   pub bytes : (i : ℕ) → OutsideTables B (length laid) i → getD (live B es laid) i 0 ≡ toldByteBy B es laid (λ (s : ℕ). emptySlot) i (getD laid i 0)

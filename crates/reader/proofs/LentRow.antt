@@ -22,7 +22,7 @@ use Rattle.rows.specs.Row.{entryOf, presentEntries, rowOutcome}
 use Rattle.rows.specs.Plans.{Made, planned, noPlan, nowhere, roomed, plainly}
 use Rattle.rows.proofs.Laws.{made-none, planned-none}
 use Rattle.tables.specs.Lens.{sideOf, tables}
-use Rattle.reader.specs.Reader.{readerCheck, takesBack, takenArray, arrayPlace, readerEntries, readerRowCheck, readerRead}
+use Rattle.reader.specs.Reader.{readerCheck, takesBack, takenArray, arrayBytePlace, readerEntries, readerRowCheck, readerRead}
 use Rattle.reader.proofs.Ways.{refuses, accepts, taken-array, bare-reader}
 
 -- ---- the entries of an array, in the image and in the part that it is
@@ -71,7 +71,7 @@ module _ (B : ℕ) (xs : List ℕ) {f : ℕ} (e : f ≡ readerCheck B (length xs
   pub plan-refused : {r : Refusal} → (f ≡ 0 → ⊥) → r ≡ refusalOf (plain f) → p ≡ noPlan (nowhere r) → Made xs p × (planned xs p ≡ readerEntries B xs)
   plan-refused {r} d q g = rw g (made-none xs (nowhere r), planned-none xs (nowhere r) ∙ refuses B xs e _ d q)
 
-  pub plan-listed : {back : Bool} {at : ℕ} → f ≡ 0 → back ≡ takesBack B (length xs) (tables B xs) → at ≡ arrayPlace B (length xs) (sideOf back)
+  pub plan-listed : {back : Bool} {at : ℕ} → f ≡ 0 → back ≡ takesBack B (length xs) (tables B xs) → at ≡ arrayBytePlace B (length xs) (sideOf back)
       → Made xs p × (planned xs p ≡ accepted (presentEntries xs at 128)) → Made xs p × (planned xs p ≡ readerEntries B xs)
   plan-listed {back} {at} z q a m =
       (m .0, m .1 ∙ accepts B xs e z (entries-in-part xs at ∙ ap (λ (l : List ℕ). presentEntries l 0 128) (taken-array B xs q a)))

@@ -26,7 +26,7 @@ use Rattle.tables.specs.Check.{roomCheck, tableCheck, badSlot}
 use Rattle.tables.proofs.Good.{slot-ok}
 use Rattle.tables.proofs.Dropped.{bare-room}
 use Rattle.checking.proofs.CheckWays.{named-room}
-use Rattle.reader.specs.Reader.{passes, chosenNumber, readerCheck, takesBack, takenSide, takenArray, arrayPlace, sideAnswer, readerCount, readerNext, readerSlotCheck, heldIn, readerSlot}
+use Rattle.reader.specs.Reader.{passes, chosenNumber, readerCheck, takesBack, takenSide, takenArray, arrayBytePlace, sideAnswer, readerCount, readerNext, readerSlotCheck, heldIn, readerSlot}
 
 -- ---- one table
 
@@ -112,13 +112,13 @@ module _ (B n : ℕ) (t : Tables) where
 
 -- where it starts, and that it is the table's
 module _ (B : ℕ) (xs : List ℕ) where
-  array-is : (s : Side) {at : ℕ} → at ≡ arrayPlace B (length xs) s → part xs at 16384 ≡ copyAt s (tables B xs) .array
+  array-is : (s : Side) {at : ℕ} → at ≡ arrayBytePlace B (length xs) s → part xs at 16384 ≡ copyAt s (tables B xs) .array
   unfolding tablesAt
   array-is Front e = ap (λ (j : ℕ). part xs j 16384) e
   array-is Back e = ap (λ (j : ℕ). part xs j 16384) e
 
   -- once the reader has chosen
-  module _ {back : Bool} {at : ℕ} (q : back ≡ takesBack B (length xs) (tables B xs)) (e : at ≡ arrayPlace B (length xs) (sideOf back)) where
+  module _ {back : Bool} {at : ℕ} (q : back ≡ takesBack B (length xs) (tables B xs)) (e : at ≡ arrayBytePlace B (length xs) (sideOf back)) where
     pub taken-array : part xs at 16384 ≡ takenArray B (length xs) (tables B xs)
     taken-array = array-is (sideOf back) e ∙ ap (λ (b : Bool). copyAt (sideOf b) (tables B xs) .array) q
 

@@ -1,5 +1,6 @@
 -- The reader of a pulled card: the front table if its header, layout, array and entries pass, else the back one by the same tests, else 27. What it shows: the disk
 -- GUID and the array, so all 128 slots. From document 02, 6/13. Assumes nothing.
+use mathlib.Core.Path.{_≡_}
 use mathlib.Core.Bool.{Bool, not, _&&_}
 use mathlib.Core.List.{List}
 use Prim.Native.Nat.{ℕ, _+_, _-_}
@@ -15,6 +16,7 @@ use Rattle.tables.specs.Places.{backArray}
 use Rattle.tables.specs.Lens.{Side, Front, Back, Copy, Tables, sideOf, copyAt, tables}
 use Rattle.tables.specs.Entries.{entriesOk}
 use Rattle.tables.specs.Check.{roomCheck, tableCheck, guidOf, badSlot}
+use Rattle.reader.specs.declared.inner.Choice.{Choice}
 
 -- one table's header, layout, array and entries pass
 unfoldable pub passes : ℕ → ℕ → Side → Copy → Bool
@@ -55,9 +57,13 @@ abbrev pub takenArray : ℕ → ℕ → Tables → List ℕ
 takenArray B n t = copyAt (takenSide B n t) t .array
 
 -- where a side's array starts in an image of n bytes
-abbrev pub arrayPlace : ℕ → ℕ → Side → ℕ
-arrayPlace B n Front = B + B
-arrayPlace B n Back = backArray B n
+abbrev pub arrayBytePlace : ℕ → ℕ → Side → ℕ
+arrayBytePlace B n Front = B + B
+arrayBytePlace B n Back = backArray B n
+
+-- what the choice between the tables of an image tells: the number that refuses it, and where none does the side that is taken
+abbrev pub Chosen : ℕ → List ℕ → Choice → Type 0
+Chosen B xs c = (c .number ≡ readerCheck B (length xs) (tables B xs) .number) × (c .number ≡ 0 → c .back ≡ takesBack B (length xs) (tables B xs))
 
 -- ---- the calls, on an image
 

@@ -20,7 +20,10 @@ ghost use Rattle.partition.specs.Meanings.{readMeans};
 ghost use Rattle.rows.specs.Plans.{Made, planned};
 ghost use Rattle.tables.specs.Lens.{sideOf, copyIn, copies, tables};
 ghost use Rattle.tables.specs.Check.{roomCheck, badSlot};
-ghost use Rattle.reader.specs.Reader.{passes, chosenNumber, readerCheck, takesBack, arrayPlace, heldIn, readerEntries};
+ghost use Rattle.reader.specs.Reader.{passes, chosenNumber, Chosen, takesBack, arrayBytePlace, heldIn, readerEntries};
+
+// Neither table passes.
+const NO_GOOD_COPY: u32 = 27;
 
 // What the reader found: the number that refuses the card, or 0; and whether the front table does not pass, so that it takes the back one.
 pub struct Choice {
@@ -82,14 +85,14 @@ pub fn choose_copy<'a>(
         };
     }
     Choice {
-        number: 27,
+        number: NO_GOOD_COPY,
         back: true,
     }
 }
 
 // The same of an image, after 1, 8, 10.
 pub fn choose(img: &[u8], b: u64) -> Choice
-    ensures { λ r. ⌜ (r .number ≡ readerCheck b (length (now (img .entry))) (tables b (now (img .entry))) .number) × (r .number ≡ 0 → r .back ≡ takesBack b (length (now (img .entry))) (tables b (now (img .entry)))) ⌝ }
+    ensures { λ r. ⌜ Chosen b (now (img .entry)) r ⌝ }
 {
     let len = img.len();
     let room = tables::inner::room_check(len, b);
@@ -113,9 +116,9 @@ pub fn choose(img: &[u8], b: u64) -> Choice
 }
 
 // Where a side's array starts in an image of len bytes.
-pub fn array_place(len: usize, b: u64, back: bool) -> BytePlace
+pub fn array_byte_place(len: usize, b: u64, back: bool) -> BytePlace
     requires { ⌜ roomCheck b len .number ≡ 0 ⌝ }
-    ensures { λ r. ⌜ (r .0 ≡ arrayPlace b len (sideOf back)) × (r .0 + 16384 ≤ len) ⌝ }
+    ensures { λ r. ⌜ (r .0 ≡ arrayBytePlace b len (sideOf back)) × (r .0 + 16384 ≤ len) ⌝ }
 {
     units::inner::place(tables::inner::array_start(len, b, back), b)
 }
@@ -142,5 +145,5 @@ pub fn plan_of(img: &[u8], b: u64) -> Plan
     if found.number != 0 {
         return Plan::refused_plainly(found.refusal());
     }
-    Plan::listing(img, array_place(img.len(), b, found.back), 128)
+    Plan::listing(img, array_byte_place(img.len(), b, found.back), 128)
 }

@@ -46,7 +46,7 @@ pub fn count_used(img: &[u8], b: u64) -> PartitionCount
     if found.number != 0 {
         return PartitionCount::Refused(found.refusal());
     }
-    let at = inner::array_place(img.len(), b, found.back);
+    let at = inner::array_byte_place(img.len(), b, found.back);
     let from = at.0;
     PartitionCount::Present(partition::inner::count_present(&img[from..from + 16384], 0, 128))
 }
@@ -59,7 +59,7 @@ pub fn next_used(img: &[u8], b: u64, after: Slot) -> NextPartition
     if found.number != 0 {
         return NextPartition::Refused(found.refusal());
     }
-    let at = inner::array_place(img.len(), b, found.back);
+    let at = inner::array_byte_place(img.len(), b, found.back);
     let from = at.0;
     let slot = partition::inner::next_present(&img[from..from + 16384], 0, 128, after);
     if slot.0 == 0 {
@@ -79,7 +79,7 @@ pub fn read_slot(img: &[u8], b: u64, slot: Slot) -> PartitionRead
     if tables::inner::bad_slot(slot) {
         return partition::inner::refused(Refusal::BadSlot);
     }
-    let at = inner::array_place(img.len(), b, found.back);
+    let at = inner::array_byte_place(img.len(), b, found.back);
     let from = at.0;
     inner::slot_in(&img[from..from + 16384], slot)
 }

@@ -27,7 +27,7 @@ use Rattle.tables.proofs.Good.{slot-ok}
 use Rattle.tables.proofs.Copies.{copies-tables}
 use Rattle.staged.specs.declared.Update.{Update}
 use Rattle.staged.specs.declared.Repair.{Repair}
-use Rattle.reader.specs.Reader.{arrayPlace}
+use Rattle.reader.specs.Reader.{arrayBytePlace}
 use Rattle.staged.specs.Stores.{headerPlace, copyPlace, storeIn, storeBytes, slotStore, headerStore, stageStore, blockStore, repairStore}
 
 -- ---- a store in a lent part
@@ -54,16 +54,16 @@ module _ (B n : ℕ) (r : Room B n) where
   header-from Front = omega arith
   header-from Back = r .seam
 
-  pub array-from : (s : Side) (x : ℕ) → copyPlace B n s + (arrayIn B s + x) ≡ arrayPlace B n s + x
+  pub array-from : (s : Side) (x : ℕ) → copyPlace B n s + (arrayIn B s + x) ≡ arrayBytePlace B n s + x
   array-from Front x = omega arith
   array-from Back x = omega arith
 
   -- a block of one array does not reach into the other array
-  pub arrays-apart : (s : Side) (j : ℕ) → j * B + B ≤ 16384 → (arrayPlace B n (other s) + j * B + B ≤ arrayPlace B n s + j * B) ⊎ (arrayPlace B n s + j * B + B ≤ arrayPlace B n (other s) + j * B)
+  pub arrays-apart : (s : Side) (j : ℕ) → j * B + B ≤ 16384 → (arrayBytePlace B n (other s) + j * B + B ≤ arrayBytePlace B n s + j * B) ⊎ (arrayBytePlace B n s + j * B + B ≤ arrayBytePlace B n (other s) + j * B)
   arrays-apart Front j h = inr (omega (arith, r .low))
   arrays-apart Back j h = inl (omega (arith, r .low))
 
-  pub array-inside : (s : Side) → arrayPlace B n s + 16384 ≤ n
+  pub array-inside : (s : Side) → arrayBytePlace B n s + 16384 ≤ n
   array-inside Front = omega (arith, r .low, r .seam, r .top)
   array-inside Back = omega (arith, r .seam, r .top)
 
@@ -143,11 +143,11 @@ block-inside B n j r h =
     omega arith
 
 module _ (B n : ℕ) (b : Bool) (j : ℕ) {from to : ℕ} where
-  pub block-apart : Room B n → j * B + B ≤ 16384 → from ≡ arrayPlace B n (sideOf (not b)) → to ≡ arrayPlace B n (sideOf b)
+  pub block-apart : Room B n → j * B + B ≤ 16384 → from ≡ arrayBytePlace B n (sideOf (not b)) → to ≡ arrayBytePlace B n (sideOf b)
       → (from + j * B + B ≤ to + j * B) ⊎ (to + j * B + B ≤ from + j * B)
   block-apart r h p q = rw (p, q, other-side b) (arrays-apart B n r (sideOf b) j h)
 
-  pub block-is : (xs : List ℕ) → from ≡ arrayPlace B n (sideOf (not b)) → to ≡ arrayPlace B n (sideOf b) → sets xs (to + j * B) (part xs (from + j * B) B) ≡ blockStore B n (sideOf b) j xs
+  pub block-is : (xs : List ℕ) → from ≡ arrayBytePlace B n (sideOf (not b)) → to ≡ arrayBytePlace B n (sideOf b) → sets xs (to + j * B) (part xs (from + j * B) B) ≡ blockStore B n (sideOf b) j xs
   unfolding blockStore
   block-is xs p q = rw (p, q, other-side b)
 

@@ -11,7 +11,7 @@ use Rattle.tables.specs.Places.{arrayBlocks, backArray, backHeader}
 use Rattle.tables.specs.Lens.{Side, Front, Back, headerIn, arrayIn, other}
 use Rattle.tables.specs.Entries.{zeros}
 use Rattle.tables.specs.Headers.{ownBlock, arrayStart, headBlock}
-use Rattle.reader.specs.Reader.{arrayPlace}
+use Rattle.reader.specs.Reader.{arrayBytePlace}
 use Rattle.staged.specs.declared.Update.{Update}
 use Rattle.staged.specs.declared.Repair.{Repair}
 use Rattle.staged.specs.Repairs.{mended}
@@ -36,7 +36,7 @@ abbrev pub storeBytes : ℕ → ℕ → Side → Update → Bool → List ℕ
 storeBytes B n s u header = pick header (headBlock B n s (u .guid) (u .parts)) (u .entry)
 
 unfoldable pub slotStore : ℕ → ℕ → Side → Update → List ℕ → List ℕ
-slotStore B n s u xs = sets xs (arrayPlace B n s + 128 * (u .slot .0 - 1)) (u .entry)
+slotStore B n s u xs = sets xs (arrayBytePlace B n s + 128 * (u .slot .0 - 1)) (u .entry)
 
 unfoldable pub headerStore : ℕ → ℕ → Side → Guid → ℕ → List ℕ → List ℕ
 headerStore B n s g parts xs = sets xs (headerPlace B n s) (headBlock B n s g parts)
@@ -71,7 +71,7 @@ unfoldable pub zeroStore : ℕ → ℕ → Side → List ℕ → List ℕ
 zeroStore B n s xs = sets xs (headerPlace B n s) (zeros B)
 
 unfoldable pub blockStore : ℕ → ℕ → Side → ℕ → List ℕ → List ℕ
-blockStore B n s j xs = sets xs (arrayPlace B n s + j * B) (part xs (arrayPlace B n (other s) + j * B) B)
+blockStore B n s j xs = sets xs (arrayBytePlace B n s + j * B) (part xs (arrayBytePlace B n (other s) + j * B) B)
 
 unfoldable pub repairStore : ℕ → ℕ → Repair → ℕ → List ℕ → List ℕ
 repairStore B n r zero xs = xs

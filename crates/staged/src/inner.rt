@@ -24,6 +24,9 @@ ghost use Rattle.staged.specs.Stores.{copyPlace, storeIn, storeBytes, st
 ghost use Rattle.staged.specs.Numbers.{leads, nextCheck, leadsRepair, nextRepairCheck};
 ghost use Rattle.tables.specs.Lens.{headerIn};
 
+// The state does not lead to the stage that was called.
+const WRONG_STAGE: u32 = 26;
+
 // Where a side's table starts in an image of len bytes.
 pub fn copy_place(len: usize, b: u64, back: bool) -> BytePlace
     requires { ⌜ roomCheck b len .number ≡ 0 ⌝ }
@@ -123,7 +126,7 @@ pub fn next_check(len: usize, b: u64, k: u32, u: Update) -> u32
         return why::BAD_BLOCK_SIZE;
     }
     if !leads(len, b, k, u) {
-        return 26;
+        return WRONG_STAGE;
     }
     0
 }
@@ -199,8 +202,8 @@ fn store_block(img: &mut [u8], b: u64, back: bool, j: u64)
     ensures { λ _. ⌜ now (img .exit) ≡ blockStore b (length (now (img .entry))) (sideOf back) j (now (img .entry)) ⌝ }
 {
     let len = img.len();
-    let from = reader::inner::array_place(len, b, !back);
-    let to = reader::inner::array_place(len, b, back);
+    let from = reader::inner::array_byte_place(len, b, !back);
+    let to = reader::inner::array_byte_place(len, b, back);
     let skip = (j * b) as usize;
     copy_within(img, from.0 + skip, to.0 + skip, b as usize);
 }
@@ -263,7 +266,7 @@ pub fn next_repair_check(len: usize, b: u64, k: u32, r: Repair) -> u32
         return why::BAD_BLOCK_SIZE;
     }
     if !leads_repair(len, b, k, r) {
-        return 26;
+        return WRONG_STAGE;
     }
     0
 }

@@ -88,7 +88,7 @@ refusals! {
     21 OutsideUsable: "a block outside the usable ones",
     23 EmptySlot: "the slot is not used",
     24 PastPartition: "the bytes pass the partition's end",
-    26 WrongStage: "the state does not lead to this stage of this card",
+    26 WrongStage: "the state does not lead to this stage on an image of this length and block size",
     27 NoGoodCopy: "neither table of the card can be read",
     28 ReservedFlag: "a flag that UEFI keeps reserved",
     29 BadHeaderSize: "the header's stated size is below 92 or above the block size",

@@ -16,14 +16,14 @@ returns c =
     let a = c .before .before .before .before .before .args in
     refuses (a .b) (a .img .now) (c .before .before .before .choose .ensures .0) _ (c .before .if1 .taken) (c .refusal .ensures)
 
-array-place-requires : tie.Need-array-place-requires
-array-place-requires c κs = let k = c .before .before in let a = k .before .before .args in room (a .b) (a .img .now) (k .choose .ensures .0) (c .if1 .left)
+array-byte-place-requires : tie.Need-array-byte-place-requires
+array-byte-place-requires c κs = let k = c .before .before in let a = k .before .before .args in room (a .b) (a .img .now) (k .choose .ensures .0) (c .if1 .left)
 
 part-count-present-end : tie.Need-part-count-present-end
-part-count-present-end c = omega (arith, c .array-place .ensures .1)
+part-count-present-end c = omega (arith, c .array-byte-place .ensures .1)
 
 count-present-requires : tie.Need-count-present-requires
-count-present-requires c κs = let p = c .before in let a = p .before .before .before .before .before .args in whole-array _ (length-lent (a .img .now) (p .array-place .result .0) 16384 (p .array-place .ensures .1))
+count-present-requires c κs = let p = c .before in let a = p .before .before .before .before .before .args in whole-array _ (length-lent (a .img .now) (p .array-byte-place .result .0) 16384 (p .array-byte-place .ensures .1))
 
 returns-2 : tie.Need-returns-2
 returns-2 c =
@@ -32,7 +32,7 @@ returns-2 c =
     let a = k .before .before .args in
     let z = p .before .if1 .left in
     accepts (a .b) (a .img .now) (k .choose .ensures .0) z
-    (c .count-present .ensures ∙ ap (λ (l : List ℕ). length (presentFrom l 0 0 128)) (lent-array (a .b) (a .img .now) (k .choose .ensures .1 z) (p .array-place .ensures .0)))
+    (c .count-present .ensures ∙ ap (λ (l : List ℕ). length (presentFrom l 0 0 128)) (lent-array (a .b) (a .img .now) (k .choose .ensures .1 z) (p .array-byte-place .ensures .0)))
 
 pub count-used-spec : {M : Type 1} → statement M
 count-used-spec =
@@ -41,7 +41,7 @@ count-used-spec =
     (λ c κs. search needs)
     (λ c κs. search needs)
     returns
-    array-place-requires
+    array-byte-place-requires
     (λ c. search needs)
     (λ c. search needs)
     (λ c. search needs)

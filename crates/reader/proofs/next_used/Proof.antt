@@ -12,14 +12,14 @@ returns c =
     let a = c .before .before .before .before .before .args in
     refuses (a .b) (a .img .now) (c .before .before .before .choose .ensures .0) _ (c .before .if1 .taken) (c .refusal .ensures)
 
-array-place-requires : tie.Need-array-place-requires
-array-place-requires c κs = let k = c .before .before in let a = k .before .before .args in room (a .b) (a .img .now) (k .choose .ensures .0) (c .if1 .left)
+array-byte-place-requires : tie.Need-array-byte-place-requires
+array-byte-place-requires c κs = let k = c .before .before in let a = k .before .before .args in room (a .b) (a .img .now) (k .choose .ensures .0) (c .if1 .left)
 
 part-next-present-end : tie.Need-part-next-present-end
-part-next-present-end c = omega (arith, c .array-place .ensures .1)
+part-next-present-end c = omega (arith, c .array-byte-place .ensures .1)
 
 next-present-requires : tie.Need-next-present-requires
-next-present-requires c κs = let p = c .before in let a = p .before .before .before .before .before .args in whole-array _ (length-lent (a .img .now) (p .array-place .result .0) 16384 (p .array-place .ensures .1))
+next-present-requires c κs = let p = c .before in let a = p .before .before .before .before .before .args in whole-array _ (length-lent (a .img .now) (p .array-byte-place .result .0) 16384 (p .array-byte-place .ensures .1))
 
 returns-2 : tie.Need-returns-2
 returns-2 c =
@@ -27,7 +27,7 @@ returns-2 c =
     let k = p .before .before .before in
     let a = k .before .before .args in
     let z = p .before .if1 .left in
-    next-over (a .b) (a .img .now) (k .choose .ensures .0) z (a .after .0) (lent-array (a .b) (a .img .now) (k .choose .ensures .1 z) (p .array-place .ensures .0)) (c .before .before .next-present .ensures) (c .if2 .taken)
+    next-over (a .b) (a .img .now) (k .choose .ensures .0) z (a .after .0) (lent-array (a .b) (a .img .now) (k .choose .ensures .1 z) (p .array-byte-place .ensures .0)) (c .before .before .next-present .ensures) (c .if2 .taken)
 
 returns-3 : tie.Need-returns-3
 returns-3 c =
@@ -35,7 +35,7 @@ returns-3 c =
     let k = p .before .before .before in
     let a = k .before .before .args in
     let z = p .before .if1 .left in
-    next-given (a .b) (a .img .now) (k .choose .ensures .0) z (a .after .0) (lent-array (a .b) (a .img .now) (k .choose .ensures .1 z) (p .array-place .ensures .0)) (c .before .before .next-present .ensures) (c .if2 .left)
+    next-given (a .b) (a .img .now) (k .choose .ensures .0) z (a .after .0) (lent-array (a .b) (a .img .now) (k .choose .ensures .1 z) (p .array-byte-place .ensures .0)) (c .before .before .next-present .ensures) (c .if2 .left)
 
 pub next-used-spec : {M : Type 1} → statement M
 next-used-spec =
@@ -44,7 +44,7 @@ next-used-spec =
     (λ c κs. search needs)
     (λ c κs. search needs)
     returns
-    array-place-requires
+    array-byte-place-requires
     (λ c. search needs)
     (λ c. search needs)
     (λ c. search needs)

@@ -20,17 +20,17 @@ returns-2 c =
     let a = k .before .before .args in
     ap readMeans (c .refused2 .ensures) ∙ read-bad (a .b) (a .img .now) (k .choose .ensures .0) (c .before .before .before .if1 .left) (a .slot .0) (c .before .before .bad-slot .ensures) (c .before .if2 .taken)
 
-array-place-requires : tie.Need-array-place-requires
-array-place-requires c κs = let k = c .before .before .before .before in let a = k .before .before .args in room (a .b) (a .img .now) (k .choose .ensures .0) (c .before .before .if1 .left)
+array-byte-place-requires : tie.Need-array-byte-place-requires
+array-byte-place-requires c κs = let k = c .before .before .before .before in let a = k .before .before .args in room (a .b) (a .img .now) (k .choose .ensures .0) (c .before .before .if1 .left)
 
 part-slot-in-end : tie.Need-part-slot-in-end
-part-slot-in-end c = omega (arith, c .array-place .ensures .1)
+part-slot-in-end c = omega (arith, c .array-byte-place .ensures .1)
 
 slot-in-requires : tie.Need-slot-in-requires
 slot-in-requires c κs =
     let p = c .before in
     let a = p .before .before .before .before .before .before .before .args in
-    (length-lent (a .img .now) (p .array-place .result .0) 16384 (p .array-place .ensures .1), sym (p .before .before .bad-slot .ensures) ∙ p .before .if2 .left)
+    (length-lent (a .img .now) (p .array-byte-place .result .0) 16384 (p .array-byte-place .ensures .1), sym (p .before .before .bad-slot .ensures) ∙ p .before .if2 .left)
 
 returns-3 : tie.Need-returns-3
 returns-3 c =
@@ -38,7 +38,7 @@ returns-3 c =
     let k = p .before .before .before .before .before in
     let a = k .before .before .args in
     let z = p .before .before .before .if1 .left in
-    read-given (a .b) (a .img .now) (k .choose .ensures .0) z (a .slot .0) (p .before .before .bad-slot .ensures) (p .before .if2 .left) (lent-array (a .b) (a .img .now) (k .choose .ensures .1 z) (p .array-place .ensures .0)) (c .slot-in .ensures)
+    read-given (a .b) (a .img .now) (k .choose .ensures .0) z (a .slot .0) (p .before .before .bad-slot .ensures) (p .before .if2 .left) (lent-array (a .b) (a .img .now) (k .choose .ensures .1 z) (p .array-byte-place .ensures .0)) (c .slot-in .ensures)
 
 pub read-slot-spec : {M : Type 1} → statement M
 read-slot-spec =
@@ -51,7 +51,7 @@ read-slot-spec =
     (λ c κs. search needs)
     (λ c κs. search needs)
     returns-2
-    array-place-requires
+    array-byte-place-requires
     (λ c. search needs)
     (λ c. search needs)
     (λ c. search needs)

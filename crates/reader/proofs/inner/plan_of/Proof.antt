@@ -11,11 +11,11 @@ returns c =
     let a = k .before .before .args in
     plan-refused (a .b) (a .img .now) (k .choose .ensures .0) (c .before .before .if1 .taken) (c .before .refusal .ensures) (c .refused-plainly .ensures)
 
-array-place-requires : tie.Need-array-place-requires
-array-place-requires c κs = let k = c .before .before in let a = k .before .before .args in room (a .b) (a .img .now) (k .choose .ensures .0) (c .if1 .left)
+array-byte-place-requires : tie.Need-array-byte-place-requires
+array-byte-place-requires c κs = let k = c .before .before in let a = k .before .before .args in room (a .b) (a .img .now) (k .choose .ensures .0) (c .if1 .left)
 
 listing-requires : tie.Need-listing-requires
-listing-requires c κs = array-inside _ _ (c .array-place .ensures .1)
+listing-requires c κs = array-inside _ _ (c .array-byte-place .ensures .1)
 
 returns-2 : tie.Need-returns-2
 returns-2 c =
@@ -23,7 +23,7 @@ returns-2 c =
     let k = p .before .before .before in
     let a = k .before .before .args in
     let z = p .before .if1 .left in
-    plan-listed (a .b) (a .img .now) (k .choose .ensures .0) z (k .choose .ensures .1 z) (p .array-place .ensures .0) (c .listing .ensures)
+    plan-listed (a .b) (a .img .now) (k .choose .ensures .0) z (k .choose .ensures .1 z) (p .array-byte-place .ensures .0) (c .listing .ensures)
 
 pub plan-of-spec : {M : Type 1} → statement M
 plan-of-spec =
@@ -33,6 +33,6 @@ plan-of-spec =
     (λ c κs. search needs)
     (λ c κs. search needs)
     returns
-    array-place-requires
+    array-byte-place-requires
     listing-requires
     returns-2)

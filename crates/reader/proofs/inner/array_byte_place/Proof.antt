@@ -1,4 +1,4 @@
--- `reader::inner::array_place` meets its contract. Assumes nothing.
+-- `reader::inner::array_byte_place` meets its contract. Assumes nothing.
 use mathlib.Core.Path.{_≡_, refl, ap, _∙_}
 use mathlib.Core.Bool.{Bool, true, false}
 use Prim.Native.Nat.{ℕ, _+_, _*_, _^_, _≤_, _<_}
@@ -8,11 +8,11 @@ use Rattle.tables.specs.Lens.{sideOf}
 use Rattle.tables.specs.Headers.{arrayStart}
 use Rattle.tables.proofs.Room.{Room}
 use Rattle.tables.proofs.Good.{room-ok}
-use Rattle.reader.specs.Reader.{arrayPlace}
-use Rattle.reader.proofs.inner.array_place.Statement.{statement}
-use Rattle.reader.proofs.inner.array_place.Tie as tie
+use Rattle.reader.specs.Reader.{arrayBytePlace}
+use Rattle.reader.proofs.inner.array_byte_place.Statement.{statement}
+use Rattle.reader.proofs.inner.array_byte_place.Tie as tie
 
-starts : (B n : ℕ) (back : Bool) → Room B n → (arrayStart B n (sideOf back) * B ≡ arrayPlace B n (sideOf back)) × (arrayStart B n (sideOf back) * B + 16384 ≤ n)
+starts : (B n : ℕ) (back : Bool) → Room B n → (arrayStart B n (sideOf back) * B ≡ arrayBytePlace B n (sideOf back)) × (arrayStart B n (sideOf back) * B + 16384 ≤ n)
 starts B n false r = (omega arith, omega (arith, r .low, r .seam, r .top))
 starts B n true r = (r .last, omega (arith, r .last, r .seam, r .top))
 
@@ -28,5 +28,5 @@ returns c =
     let q = starts (s .args .b) (s .args .len) (s .args .back) (room-ok _ _ (s .pre)) in
     rw (c .place .ensures, c .before .array-start .ensures) q
 
-pub array-place-spec : {M : Type 1} → statement M
-array-place-spec = tie.close (tie.spec (λ c κs. search needs) place-requires returns)
+pub array-byte-place-spec : {M : Type 1} → statement M
+array-byte-place-spec = tie.close (tie.spec (λ c κs. search needs) place-requires returns)
