@@ -54,7 +54,7 @@ outside:
 
 # Proves and builds the programs that the tests outside Rattle and the documents run.
 programs:
-	@scripts/prove lister free_ground sample sums
+	@scripts/prove lister free_ground uefi_lister sample sums
 
 # Makes the library for C and whatever calls C, target/lib/libcard.a and libcard.so. The header is include/card.h.
 lib: target/lib/libcard.so.0
@@ -109,14 +109,15 @@ example:
 	@mkdir -p target
 	python3 tests/example/make_card.py lister | cmp - crates/lister/stdin
 	python3 tests/example/make_card.py free_ground | cmp - crates/free_ground/stdin
+	python3 tests/example/make_card.py uefi_lister | cmp - crates/uefi_lister/stdin
 	python3 tests/example/make_card.py sample | cmp - crates/sample/stdout
 	grep '^[0-9]*: digest of the image' crates/cases/stdout >target/digests
 	python3 tests/example/make_card.py sums | cmp - target/digests
-	@echo "three cards and $$(wc -l <target/digests) sums of cards are the independent maker's"
+	@echo "four cards and $$(wc -l <target/digests) sums of cards are the independent maker's"
 
-# Runs the lister, free_ground, sums and sample: 27 cards, input, output and arguments that fail, and long input.
+# Runs the lister, free_ground, uefi_lister, sums and sample: 39 cards, input, output and arguments that fail, and long input.
 lister-test:
-	@scripts/prove lister free_ground sample sums
+	@scripts/prove lister free_ground uefi_lister sample sums
 	python3 tests/example/lister.py
 
 # Runs the example in the Python module's own text, and the module's tests (tests/python).

@@ -38,7 +38,7 @@ extern "C" {
 #define CARD_SIZE(type, size) CARD_ASSERT(sizeof(type) == (size), "the size of " #type)
 #define CARD_AT(type, field, place) CARD_ASSERT(offsetof(type, field) == (place), "the place of " #field " in " #type)
 
-/* The bytes of stack that a call needs at most. Of these the check sum's table is 16,384, in every call that sums anything but one header alone; all else was at
+/* The bytes of stack that a call needs at most. Of these the check sum's table is 16,384, in every call that sums anything but one header of 92 bytes; all else was at
    most 2,280 when it was last measured. tests/c/stack.c measures every call, and makes it on a thread of 24 KiB. */
 #define CARD_STACK 20480
 
@@ -73,10 +73,10 @@ enum card_number {
     CARD_WRONG_STAGE = 26,             /* the state does not lead to this stage on an image of this length and block size */
     CARD_NO_GOOD_COPY = 27,            /* neither table of the card can be read */
     CARD_RESERVED_FLAG = 28,           /* a flag that UEFI keeps reserved */
-    /* Of the numbers from 29 on a call gives 33 alone yet: each other one comes with its change request. */
     CARD_BAD_HEADER_SIZE = 29,         /* the header's stated size is below 92 or above the block size */
     CARD_DIRTY_BLOCK = 30,             /* the header's block has other bytes than zero after the header */
     CARD_WRONG_PLACE = 31,             /* the header names another block than the one it was read from */
+    /* Of the numbers from 32 on a call gives 33 alone yet: each other one comes with its change request. */
     CARD_WINDOW_LENGTH = 32,           /* a window is not as long as the card asks for */
     CARD_TABLE_FULL = 33,              /* all 128 slots are used */
     CARD_BAD_MARK = 34,                /* the map does not begin with the mark FBM */
@@ -423,7 +423,7 @@ card_slot_read card_read_slot(const uint8_t *img, size_t img_len, uint64_t b, ui
    The check's numbers. */
 card_used_read card_nth_used(const uint8_t *img, size_t img_len, uint64_t b, uint32_t k);
 
-/* One row of card_list and of gpt_file_read_partitions: the slot, and its entry as it stands on the card, the name's units after the first zero cleared. */
+/* One row of a listing: the slot, and its entry as it stands on the card, the name's units after the first zero cleared. */
 typedef struct card_row {
     uint64_t slot;
     gpt_entry entry;
@@ -812,6 +812,41 @@ gpt_next gpt_next_partition(const uint8_t *img, size_t img_len, gpt_header heade
    gpt_read_partition gives. The bytes after the last row stay.
    1, 3, 7, 2, 6, 15 where out_len is less than 136 times the count. */
 gpt_count gpt_file_read_partitions(const uint8_t *img, size_t img_len, gpt_header header, uint64_t b, uint8_t *out, size_t out_len);
+
+/* ---- the second reading edition: tables of other makers, by UEFI. Header and array are read as above but for this: the header states its size, from 92 bytes to the block
+   size, and its check sum covers that many bytes; the bytes after them in its block are zero; it stands in the block that it names as its own; an entry has 128 bytes
+   times a power of two, up to 4,096, of which those after 128 are passed over; and an entry is absent exactly if its type is nil. Nothing else is asked of a header: not its revision, its
+   reserved bytes, nor the block of the other one. The card calls, lay and check among them, stay with the first edition. */
+
+/* The primary header, in block 1.
+   1, 2 (the block), 4, 29, 5, 30, 31. */
+gpt_header_read gpt_uefi_read_primary_header(const uint8_t *img, size_t img_len, uint64_t b);
+
+/* The backup header, in the last whole block.
+   1, 8, 4, 29, 5, 30, 31. */
+gpt_header_read gpt_uefi_read_backup_header(const uint8_t *img, size_t img_len, uint64_t b);
+
+/* The entry in a slot of the array that a header names. Of an absent one the record is zero, whatever its bytes are.
+   1, 7 (not 128 times a power of two up to 4,096), 3, 2, 6, 18. */
+gpt_slot_read gpt_uefi_read_partition(const uint8_t *img, size_t img_len, gpt_header header, uint64_t b, uint32_t slot);
+
+/* How many entries of that array are present: their type is not nil.
+   1, 7, 3, 2, 6. */
+gpt_count gpt_uefi_count_partitions(const uint8_t *img, size_t img_len, gpt_header header, uint64_t b);
+
+/* The first present slot of that array after a slot; 0 stands before the first.
+   1, 7, 3, 2, 6. */
+gpt_next gpt_uefi_next_partition(const uint8_t *img, size_t img_len, gpt_header header, uint64_t b, uint32_t after);
+
+/* The present entries of that array into lent bytes: a card_row for each, ascending, and how many there are. The bytes after the last row stay.
+   1, 7, 3, 2, 6, 15 where out_len is less than 136 times the count. */
+gpt_count gpt_uefi_file_read_partitions(const uint8_t *img, size_t img_len, gpt_header header, uint64_t b, uint8_t *out, size_t out_len);
+
+/* The same two with header and array in one call, of the primary table and of the backup: the header's numbers, and then 7, 3, 2, 6 and 15. */
+gpt_count gpt_uefi_count_primary(const uint8_t *img, size_t img_len, uint64_t b);
+gpt_count gpt_uefi_count_backup(const uint8_t *img, size_t img_len, uint64_t b);
+gpt_count gpt_uefi_list_primary(const uint8_t *img, size_t img_len, uint64_t b, uint8_t *out, size_t out_len);
+gpt_count gpt_uefi_list_backup(const uint8_t *img, size_t img_len, uint64_t b, uint8_t *out, size_t out_len);
 
 /* ---- the ported calls: the protective MBR */
 

@@ -38,6 +38,7 @@ NOT_RUN = {
     "sgdisk -u 2:R": "make interop runs it",
     "sgdisk -u SLOT:R": "the same, for slot 2",
     "sgdisk -A": "make interop runs it, with a slot and a bit",
+    "sgdisk -S": "the same, with a count",
     "sgdisk -i": "the same, with a slot",
     "target/stack each": "make boundary runs the program without the word, and what it prints is read off by hand",
     "make rust-outside": "make rust runs it",

@@ -1,8 +1,8 @@
 """The card calls for Python, over libcard.so: lay, check, put, clear, write_payload, listing, free_runs; slot_map and what goes with it; start_put, start_clear, next_stage,
 start_repair and next_repair, which change one block each, the reader of a card that was pulled between them (reader_..), and put_staged, clear_staged and repair_staged, which do all of it
-on a file; and crc32_next, the check sum of bytes that come in pieces.
+on a file; uefi_header and uefi_listing, which read the tables of other makers; and crc32_next, the check sum of bytes that come in pieces.
 
-An image is any writable buffer of contiguous bytes, such as a bytearray or an mmap; check, listing, free_runs, slot_map and the reader take read-only ones too, such as bytes. No call
+An image is any writable buffer of contiguous bytes, such as a bytearray or an mmap; the calls that only read take read-only ones too, such as bytes. No call
 copies the image. A call that is refused raises Refused, with the number of the refusal (NUMBERS), and changes nothing.
 
 The interpreter's lock is kept during a call, so that no other thread of Python writes the image meanwhile. Other processes must not do so either.
@@ -71,6 +71,11 @@ True
 ...     state = next_repair(image, 512, state.next, state)
 >>> check(image, 512)
 
+Cards from other makers, with longer headers or other entries, are read by UEFI, each table for itself.
+
+>>> uefi_header(image, 512).size, [entry.slot for entry in uefi_listing(image, 512, BACK)]
+(92, [])
+
 On a file, put_staged(path, 512, 2, record) has the device store each block before it makes the next stage. Two premises hold these promises up: a block is stored wholly or not at
 all, and nothing else writes the card between the stages. Repair only what check refuses: a repair of a whole card first destroys its back header. Hand a card to a
 tablet only after stage four or a finished repair.
@@ -120,10 +125,10 @@ NUMBERS = {
     26: ("WrongStage", "the state does not lead to this stage on an image of this length and block size"),
     27: ("NoGoodCopy", "neither table of the card can be read"),
     28: ("ReservedFlag", "a flag that UEFI keeps reserved"),
-    # Of the numbers from 29 on a call gives 33 alone yet: each other one comes with its change request.
     29: ("BadHeaderSize", "the header's stated size is below 92 or above the block size"),
     30: ("DirtyBlock", "the header's block has other bytes than zero after the header"),
     31: ("WrongPlace", "the header names another block than the one it was read from"),
+    # Of the numbers from 32 on a call gives 33 alone yet: each other one comes with its change request.
     32: ("WindowLength", "a window is not as long as the card asks for"),
     33: ("TableFull", "all 128 slots are used"),
     34: ("BadMark", "the map does not begin with the mark FBM"),
@@ -274,6 +279,26 @@ class Repair:
         return 16384 // self.block_size + 2
 
 
+@dataclass(frozen=True)
+class Header:
+    """A table's header: its revision as major and minor, the size that it states, its own check sum and its reserved bytes; its own block and the other header's; the usable blocks; the
+    disk GUID; and the array's first block, its number of entries, their size in bytes and its check sum."""
+
+    revision: tuple
+    size: int
+    sum: int
+    reserved: int
+    block: int
+    other_block: int
+    first_usable: int
+    last_usable: int
+    guid: uuid.UUID
+    array_block: int
+    entries: int
+    entry_size: int
+    array_sum: int
+
+
 class _Map(ctypes.Structure):
     _fields_ = [("low", ctypes.c_uint64), ("high", ctypes.c_uint64)]
 
@@ -335,6 +360,16 @@ class _ReaderCount(ctypes.Structure):
     _fields_ = [("number", ctypes.c_uint32), ("count", ctypes.c_uint32)]
 
 
+class _Header(ctypes.Structure):
+    _fields_ = [("major", ctypes.c_uint16), ("minor", ctypes.c_uint16), ("size", ctypes.c_uint32), ("sum", ctypes.c_uint32), ("reserved", ctypes.c_uint32),
+                ("block", ctypes.c_uint64), ("other_block", ctypes.c_uint64), ("first_usable", ctypes.c_uint64), ("last_usable", ctypes.c_uint64), ("guid", _Guid),
+                ("array_block", ctypes.c_uint64), ("entries", ctypes.c_uint32), ("entry_size", ctypes.c_uint32), ("array_sum", ctypes.c_uint32)]
+
+
+class _HeaderRead(ctypes.Structure):
+    _fields_ = [("number", ctypes.c_uint32), ("header", _Header)]
+
+
 class _Update(ctypes.Structure):
     _fields_ = [("next", ctypes.c_uint32), ("slot", ctypes.c_uint32), ("b", ctypes.c_uint64), ("len", ctypes.c_size_t), ("entry", ctypes.c_uint8 * 128), ("guid", _Guid),
                 ("parts", ctypes.c_uint32)]
@@ -365,7 +400,7 @@ class _Buffer(ctypes.Structure):
 
 
 for _struct, _size in ((_Flags, 16), (_Bits, 16), (_Record, 136), (_Entry, 128), (_Guid, 16), (_Answer, 16), (_Stored, 24), (_Count, 16), (_Next, 8), (_Row, 136), (_Map, 16),
-                       (_Made, 32), (_Carried, 32), (_Copy, 8), (_ReaderCount, 8), (_Update, 176), (_UpdateStep, 192), (_Repair, 48), (_RepairStep, 64),
+                       (_Made, 32), (_Carried, 32), (_Copy, 8), (_ReaderCount, 8), (_Header, 88), (_HeaderRead, 96), (_Update, 176), (_UpdateStep, 192), (_Repair, 48), (_RepairStep, 64),
                        (_Buffer, 80)):
     if ctypes.sizeof(_struct) != _size:
         raise ImportError(f"{_struct.__name__} has {ctypes.sizeof(_struct)} bytes here, and not {_size}: this module is for x86-64")
@@ -422,6 +457,9 @@ _lowest_free = _declare("card_map_lowest_free", _Next, _Map)
 _map_used = _declare("card_map_used", ctypes.c_uint32, _Map)
 _reader_copy = _declare("card_reader_copy", _Copy, *_slice, ctypes.c_uint64)
 _reader_list = _declare("card_reader_list", _ReaderCount, *_slice, ctypes.c_uint64, *_slice)
+_uefi_headers = {table: _declare(f"gpt_uefi_read_{name}_header", _HeaderRead, *_slice, ctypes.c_uint64) for table, name in ((FRONT, "primary"), (BACK, "backup"))}
+_uefi_counts = {table: _declare(f"gpt_uefi_count_{name}", _ReaderCount, *_slice, ctypes.c_uint64) for table, name in ((FRONT, "primary"), (BACK, "backup"))}
+_uefi_lists = {table: _declare(f"gpt_uefi_list_{name}", _ReaderCount, *_slice, ctypes.c_uint64, *_slice) for table, name in ((FRONT, "primary"), (BACK, "backup"))}
 _start_put = _declare("card_start_put", _UpdateStep, *_slice, ctypes.c_uint64, ctypes.c_uint32, _Record)
 _start_clear = _declare("card_start_clear", _UpdateStep, *_slice, ctypes.c_uint64, ctypes.c_uint32)
 _next_stage = _declare("card_next_stage", _UpdateStep, *_slice, ctypes.c_uint64, ctypes.c_uint32, _Update)
@@ -629,6 +667,31 @@ def reader_listing(image, block_size):
     rows = (_Row * 128)()
     with _lent(image) as lent:
         n = _take(_reader_list(*lent, _blocks(block_size), ctypes.byref(rows), ctypes.sizeof(rows))).count
+    return [Entry(row.slot, _read(row.entry)) for row in rows[:n]]
+
+
+def _table(calls, table):
+    """The call of these that is the table's own."""
+    if table not in calls:
+        raise ValueError(f"the table is FRONT or BACK, and not {table!r}")
+    return calls[table]
+
+
+def uefi_header(image, block_size, table=FRONT):
+    """The header of one table, FRONT or BACK, by UEFI: it may state any size from 92 bytes to the block size. 1, 2 of the front or 8 of the back, 4, 29, 5, 30, 31."""
+    call = _table(_uefi_headers, table)
+    with _lent(image) as lent:
+        h = _take(call(*lent, _blocks(block_size))).header
+    blocks = (h.block, h.other_block, h.first_usable, h.last_usable)
+    return Header((h.major, h.minor), h.size, h.sum, h.reserved, *blocks, uuid.UUID(bytes_le=bytes(h.guid)), h.array_block, h.entries, h.entry_size, h.array_sum)
+
+
+def uefi_listing(image, block_size, table=FRONT):
+    """The slots of one table, FRONT or BACK, whose type is not nil, ascending, each with its record, by UEFI. As uefi_header, then 7, 3, 2, 6."""
+    count, fill = _table(_uefi_counts, table), _table(_uefi_lists, table)
+    with _lent(image) as lent:
+        rows = (_Row * _take(count(*lent, _blocks(block_size))).count)()
+        n = _take(fill(*lent, _blocks(block_size), ctypes.byref(rows), ctypes.sizeof(rows))).count
     return [Entry(row.slot, _read(row.entry)) for row in rows[:n]]
 
 

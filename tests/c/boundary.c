@@ -1006,6 +1006,146 @@ static void mbrs(void) {
     mbr_parts(room, sizeof room);
 }
 
+/* A number stored at a place, least byte first. */
+static void store(uint8_t *at, int n, uint64_t x) {
+    for (int i = 0; i < n; i++) at[i] = (uint8_t)(x >> 8 * i);
+}
+
+/* A header of 100 stated bytes in a block, for an array of four entries of 256 bytes in block 3; its fields have values of their own. */
+static void other_header(uint8_t *card, uint64_t block, uint64_t other) {
+    uint8_t *h = card + block * BLOCK;
+    memset(h, 0, BLOCK);
+    memcpy(h, "EFI PART", 8);
+    store(h + 8, 4, 0x00020003);
+    store(h + 12, 4, 100);
+    store(h + 20, 4, 0xE3E2E1E0);
+    store(h + 24, 8, block);
+    store(h + 32, 8, other);
+    store(h + 40, 8, 0xF1);
+    store(h + 48, 8, 0xF2);
+    memcpy(h + 56, &disk, 16);
+    store(h + 72, 8, 3);
+    store(h + 80, 4, 4);
+    store(h + 84, 4, 256);
+    store(h + 88, 4, gpt_crc32(card + 3 * BLOCK, 1024));
+    memset(h + 92, 0xDD, 8);
+    store(h + 16, 4, gpt_crc32(h, 100));
+}
+
+/* One table of such a card, whose slots 1 and 4 are used, and slot 3 has bytes of nil type. */
+static void other_table(const uint8_t *card, size_t len, bool back) {
+    gpt_header_read h = back ? gpt_uefi_read_backup_header(card, len, BLOCK) : gpt_uefi_read_primary_header(card, len, BLOCK);
+    SAME(h.number, 0);
+    SAME(h.header.revision.major, 2);
+    SAME(h.header.revision.minor, 3);
+    SAME(h.header.header_size_le, 100);
+    SAME(h.header.crc32, le(card + (back ? len - BLOCK : BLOCK) + 16, 4));
+    SAME(h.header.reserved, 0xE3E2E1E0);
+    SAME(h.header.current_lba, back ? 7 : 1);
+    SAME(h.header.backup_lba, back ? 1 : 7);
+    SAME(h.header.first_usable, 0xF1);
+    SAME(h.header.last_usable, 0xF2);
+    BYTES(&h.header.disk_guid, &disk, 16);
+    SAME(h.header.part_start, 3);
+    SAME(h.header.num_parts, 4);
+    SAME(h.header.part_size, 256);
+    SAME(gpt_uefi_count_partitions(card, len, h.header, BLOCK).count, 2);
+    SAME(gpt_uefi_next_partition(card, len, h.header, BLOCK, 0).slot, 1);
+    SAME(gpt_uefi_next_partition(card, len, h.header, BLOCK, 1).slot, 4);
+    SAME(gpt_uefi_next_partition(card, len, h.header, BLOCK, 4).slot, 0);
+    gpt_slot_read r = gpt_uefi_read_partition(card, len, h.header, BLOCK, 4);
+    SAME(r.number, 0);
+    SAME(r.present, 1);
+    RECORD(r.partition, some(50, 51));
+    r = gpt_uefi_read_partition(card, len, h.header, BLOCK, 3);
+    SAME(r.number, 0);
+    SAME(r.present, 0);
+    RECORD(r.partition, no_record);
+    r = gpt_uefi_read_partition(card, len, h.header, BLOCK, 5);
+    SAME(r.number, CARD_BAD_SLOT);
+    RECORD(r.partition, no_record);
+    for (int whole = 0; whole < 2; whole++) {
+        card_row rows[3];
+        memset(rows, 0x77, sizeof rows);
+        uint8_t *out = (uint8_t *)rows;
+        gpt_count n = !whole ? gpt_uefi_file_read_partitions(card, len, h.header, BLOCK, out, sizeof rows)
+                      : back ? gpt_uefi_list_backup(card, len, BLOCK, out, sizeof rows)
+                             : gpt_uefi_list_primary(card, len, BLOCK, out, sizeof rows);
+        SAME(n.number, 0);
+        SAME(n.count, 2);
+        SAME(rows[0].slot, 1);
+        STANDS(&rows[0].entry, some(40, 41));
+        SAME(rows[1].slot, 4);
+        STANDS(&rows[1].entry, some(50, 51));
+        SAME(rows[2].slot, 0x7777777777777777);
+    }
+    gpt_count n = back ? gpt_uefi_count_backup(card, len, BLOCK) : gpt_uefi_count_primary(card, len, BLOCK);
+    SAME(n.number, 0);
+    SAME(n.count, 2);
+}
+
+/* Both tables' calls are refused by one number, the rest of each answer is zero, and no lent byte changes. */
+static void other_refused(const uint8_t *card, size_t len, uint64_t b, uint32_t front, uint32_t back) {
+    uint8_t rows[272];
+    for (int i = 0; i < 2; i++) {
+        uint32_t number = i ? back : front;
+        gpt_header_read h = i ? gpt_uefi_read_backup_header(card, len, b) : gpt_uefi_read_primary_header(card, len, b);
+        SAME(h.number, number);
+        SAME(h.header.header_size_le, 0);
+        SAME(h.header.num_parts, 0);
+        gpt_count n = i ? gpt_uefi_count_backup(card, len, b) : gpt_uefi_count_primary(card, len, b);
+        SAME(n.number, number);
+        SAME(n.count, 0);
+        memset(rows, 0x77, sizeof rows);
+        n = i ? gpt_uefi_list_backup(card, len, b, rows, sizeof rows) : gpt_uefi_list_primary(card, len, b, rows, sizeof rows);
+        SAME(n.number, number);
+        SAME(n.count, 0);
+        SAME(le(rows, 8), 0x7777777777777777);
+    }
+}
+
+/* The second reading edition: on a card that the library laid, as the first reads it; on one of another maker; and each of its refusals. */
+static void by_uefi(void) {
+    static uint8_t card[8 * BLOCK];
+    gpt_header_read h = gpt_read_primary_header(img, LEN, BLOCK), u = gpt_uefi_read_primary_header(img, LEN, BLOCK);
+    SAME(u.number, 0);
+    BYTES(&u.header, &h.header, 84);
+    SAME(gpt_uefi_count_primary(img, LEN, BLOCK).count, gpt_count_partitions(img, LEN, h.header, BLOCK).count);
+    SAME(gpt_uefi_count_backup(img, LEN, BLOCK).count, gpt_count_partitions(img, LEN, h.header, BLOCK).count);
+    SAME(gpt_entry_to_bytes(card + 3 * BLOCK, 128, some(40, 41)), 0);
+    SAME(gpt_entry_to_bytes(card + 3 * BLOCK + 768, 128, some(50, 51)), 0);
+    memset(card + 3 * BLOCK + 128, 0xEE, 128);
+    memset(card + 3 * BLOCK + 512 + 16, 0xEE, 240);
+    other_header(card, 1, 7);
+    other_header(card, 7, 1);
+    other_table(card, sizeof card, false);
+    other_table(card, sizeof card, true);
+    SAME(gpt_read_primary_header(card, sizeof card, BLOCK).number, CARD_INVALID_CRC32_CHECKSUM);
+    uint8_t rows[271];
+    SAME(gpt_uefi_list_primary(card, sizeof card, BLOCK, rows, sizeof rows).number, CARD_NO_ROOM);
+    SAME(gpt_uefi_list_backup(card, sizeof card, BLOCK, rows, sizeof rows).count, 0);
+    u = gpt_uefi_read_primary_header(card, sizeof card, BLOCK);
+    SAME(gpt_uefi_file_read_partitions(card, sizeof card, u.header, BLOCK, rows, sizeof rows).number, CARD_NO_ROOM);
+    u.header.part_size = 384;
+    SAME(gpt_uefi_count_partitions(card, sizeof card, u.header, BLOCK).number, CARD_BAD_ENTRY_SIZE);
+    SAME(gpt_uefi_next_partition(card, sizeof card, u.header, BLOCK, 0).number, CARD_BAD_ENTRY_SIZE);
+    SAME(gpt_uefi_read_partition(card, sizeof card, u.header, BLOCK, 1).number, CARD_BAD_ENTRY_SIZE);
+    other_refused(card, sizeof card, 1024, CARD_BAD_BLOCK_SIZE, CARD_BAD_BLOCK_SIZE);
+    other_refused(card, 2 * BLOCK - 1, BLOCK, CARD_SHORT, CARD_TO_SMALL_FOR_BACKUP);
+    card[2 * BLOCK - 1] = card[8 * BLOCK - 1] = 1;
+    other_refused(card, sizeof card, BLOCK, CARD_DIRTY_BLOCK, CARD_DIRTY_BLOCK);
+    card[BLOCK + 99] ^= 1, card[7 * BLOCK + 99] ^= 1;
+    other_refused(card, sizeof card, BLOCK, CARD_INVALID_CRC32_CHECKSUM, CARD_INVALID_CRC32_CHECKSUM);
+    card[BLOCK + 12] = 91, card[7 * BLOCK + 13] = 3;
+    other_refused(card, sizeof card, BLOCK, CARD_BAD_HEADER_SIZE, CARD_BAD_HEADER_SIZE);
+    card[BLOCK] ^= 1, card[7 * BLOCK] ^= 1;
+    other_refused(card, sizeof card, BLOCK, CARD_INVALID_GPT_SIGNATURE, CARD_INVALID_GPT_SIGNATURE);
+    other_header(card, 2, 7);
+    memcpy(card + BLOCK, card + 2 * BLOCK, BLOCK);
+    memcpy(card + 7 * BLOCK, card + 2 * BLOCK, BLOCK);
+    other_refused(card, sizeof card, BLOCK, CARD_WRONG_PLACE, CARD_WRONG_PLACE);
+}
+
 int main(void) {
     cards();
     puts_two();
@@ -1029,6 +1169,7 @@ int main(void) {
     builds_set();
     entries();
     arrays();
+    by_uefi();
     records();
     mbrs();
     if (wrong != 0) {

@@ -94,6 +94,16 @@ static void read_partition(void) { number = gpt_read_partition(img, LEN, header,
 static void count_partitions(void) { number = gpt_count_partitions(img, LEN, header, BLOCK).number; }
 static void next_partition(void) { number = gpt_next_partition(img, LEN, header, BLOCK, 64).number; }
 static void read_partitions(void) { number = gpt_file_read_partitions(img, LEN, header, BLOCK, (uint8_t *)rows, sizeof rows).number; }
+static void uefi_primary(void) { number = gpt_uefi_read_primary_header(img, LEN, BLOCK).number; }
+static void uefi_backup(void) { number = gpt_uefi_read_backup_header(img, LEN, BLOCK).number; }
+static void uefi_partition(void) { number = gpt_uefi_read_partition(img, LEN, header, BLOCK, 128).number; }
+static void uefi_count(void) { number = gpt_uefi_count_partitions(img, LEN, header, BLOCK).number; }
+static void uefi_next(void) { number = gpt_uefi_next_partition(img, LEN, header, BLOCK, 64).number; }
+static void uefi_read(void) { number = gpt_uefi_file_read_partitions(img, LEN, header, BLOCK, (uint8_t *)rows, sizeof rows).number; }
+static void uefi_count_primary(void) { number = gpt_uefi_count_primary(img, LEN, BLOCK).number; }
+static void uefi_count_backup(void) { number = gpt_uefi_count_backup(img, LEN, BLOCK).number; }
+static void uefi_list_primary(void) { number = gpt_uefi_list_primary(img, LEN, BLOCK, (uint8_t *)rows, sizeof rows).number; }
+static void uefi_list_backup(void) { number = gpt_uefi_list_backup(img, LEN, BLOCK, (uint8_t *)rows, sizeof rows).number; }
 static void mbr_from_bytes(void) { number = gpt_mbr_from_bytes(img, BLOCK, BLOCK).number; }
 static void mbr_from_image(void) { number = gpt_mbr_from_image(img, LEN, BLOCK).number; }
 static void mbr_record_read(void) { number = gpt_mbr_record_from_bytes(img + 446, 16).number; }
@@ -121,6 +131,8 @@ static const kind kinds[] = {
     KIND(crc32), KIND(crc32_next), KIND(read_primary), KIND(read_backup), KIND(find_backup), KIND(parts_sum), KIND(slot_sum), KIND(write_primary),
     KIND(write_backup), KIND(build), KIND(build_new), KIND(from_bytes), KIND(to_bytes), KIND(is_used), KIND(sectors), KIND(bytes), KIND(bytes_start),
     KIND(write_entry), KIND(zero_entries), KIND(read_partition), KIND(count_partitions), KIND(next_partition), KIND(read_partitions),
+    KIND(uefi_primary), KIND(uefi_backup), KIND(uefi_partition), KIND(uefi_count), KIND(uefi_next), KIND(uefi_read),
+    KIND(uefi_count_primary), KIND(uefi_count_backup), KIND(uefi_list_primary), KIND(uefi_list_backup),
     KIND(mbr_from_bytes), KIND(mbr_from_image), KIND(mbr_record_read), KIND(mbr_record_bytes), KIND(mbr_bytes), KIND(mbr_record), KIND(mbr_set),
     KIND(mbr_overwrite), KIND(mbr_conservative), KIND(bootcode_read), KIND(bootcode_write), KIND(signature_read), KIND(signature_write),
 };

@@ -1,6 +1,6 @@
 #!/usr/bin/env python3
 """Runs target/bin/lister on cards of the independent maker and on what it must refuse, and compares all that it prints with document 01's words; and free_ground
-likewise with document 02's 1/13, in the lister's form. Then runs both, sums and sample with input and output that fail: that is said on standard error, and is never a verdict.
+likewise with document 02's 1/13, and uefi_lister with 9/13, in the lister's form. Then runs all three, sums and sample with input and output that fail: that is said on standard error, and is never a verdict.
 And sums on input of any length, cut in any way."""
 import os
 import subprocess
@@ -59,12 +59,38 @@ FREE = [
     ("67 blocks", bytes(67 * 512), "refused 10\n"),
     ("two slots on one block", at_slots(68, {1: (34, 34), 2: (34, 34)}), "refused 16\n"),
 ]
+UEFI_HEAD = "slot first last blocks name\n"
+OTHER = make_card.CARDS["uefi_lister"]()
+OTHER_LINES = "1 34 65 32 map 2026-11-15\n3 66 85 20 h\u00f6hen \u9ad8\u7a0b\n16 86 94 9 notes\nused 3\n"
+
+
+def other(stated=92, each=128, count=128, slots=None, **more):
+    """Another maker's card of 128 blocks."""
+    return make_card.other_card(128, 512, make_card.other_slots(each) if slots is None else slots, each, count, stated=stated, **more)
+
+
+ODD = {1: make_card.entry(1, 9, 8, "\ud800\t\x7f\u007e\u0080\u00a0\u07ff\u0800\uffff"), 2: make_card.entry(2, 0, 2 ** 64 - 1, "A" * 36)}
+UEFI = [
+    ("another maker's card", OTHER, UEFI_HEAD + OTHER_LINES + "edition second\n"),
+    ("document 01's example", ONE, UEFI_HEAD + "1 34 34 1 map 1\nused 1\nedition both\n"),
+    ("92 bytes, entries of 128, one of nil type", other(), UEFI_HEAD + OTHER_LINES + "edition both\n"),
+    ("96 bytes", other(96), UEFI_HEAD + OTHER_LINES + "edition second\n"),
+    ("entries of 256", other(each=256, count=16), UEFI_HEAD + OTHER_LINES + "edition second\n"),
+    ("names and blocks at their edges", other(slots=ODD), UEFI_HEAD + "1 9 8 - ???~?\u00a0\u07ff\u0800\uffff\n2 0 18446744073709551615 - " + "A" * 36 + "\nused 2\nedition both\n"),
+    ("no slot used", other(128, slots={}), UEFI_HEAD + "used 0\nedition second\n"),
+    ("a byte after 92", damaged(ONE, 512 + 92), "refused 30\nedition first\n"),
+    ("entries of 384", other(each=384, count=16), "refused 7\nedition none\n"),
+    ("a header's sum", damaged(ONE, 512 + 16), "refused 5\nedition none\n"),
+    ("one byte too many", bytes(65537), "too long\n"),
+    ("nothing", b"", "refused 2\nedition none\n"),
+]
 HOLES = make_card.CARDS["free_ground"]()
 FREED = FREE_HEAD + "runs 0\n"
 LISTED = HEAD + "1 34 34 1\nused 1\n"
 USAGE = {
     "lister": "usage: lister < IMAGE (blocks of 512 bytes, 65,536 bytes at most; the exit status is always 0, so read what is printed)\n",
     "free_ground": "usage: free_ground < IMAGE (blocks of 512 bytes, 65,536 bytes at most; the exit status is always 0, so read what is printed)\n",
+    "uefi_lister": "usage: uefi_lister < IMAGE (blocks of 512 bytes, 65,536 bytes at most; the exit status is always 0, so read what is printed)\n",
     "sums": "usage: sums < BYTES (any number of them; the exit status is always 0, so read what is printed)\n",
     "sample": "usage: sample > IMAGE (65,536 bytes; the exit status is always 0, so read what is printed on standard error)\n",
 }
@@ -147,6 +173,7 @@ def failures():
     runs = {
         "lister": inputs("lister", "") + slow("lister", ONE, LISTED) + outputs("lister", ONE, LISTED) + arguments("lister"),
         "free_ground": inputs("free_ground", "") + slow("free_ground", ONE, FREED) + outputs("free_ground", HOLES, stored("free_ground")) + arguments("free_ground"),
+        "uefi_lister": inputs("uefi_lister", "") + slow("uefi_lister", ONE, UEFI[1][2]) + outputs("uefi_lister", ONE, UEFI[1][2]) + arguments("uefi_lister"),
         "sums": inputs("sums", vectors) + slow("sums", text, sums) + long_inputs(vectors) + outputs("sums", text, sums) + arguments("sums"),
         "sample": outputs("sample", b"", stored("sample")) + arguments("sample") + [
             ("closed input, which it does not read", (stored("sample"), "", 0), lambda: failing.closed_input("sample")),
@@ -162,7 +189,7 @@ def shown(text):
 
 def main():
     wrong = 0
-    for program, what, image, want in [("lister", *case) for case in CASES] + [("free_ground", *case) for case in FREE]:
+    for program, what, image, want in [("lister", *case) for case in CASES] + [("free_ground", *case) for case in FREE] + [("uefi_lister", *case) for case in UEFI]:
         got = subprocess.run([os.path.join(failing.BIN, program)], input=image, capture_output=True).stdout.decode()
         if got != want:
             wrong += 1
@@ -173,7 +200,7 @@ def main():
         if got != want:
             wrong += 1
             print(f"{program}: {what}: wrote {shown(got[0])}, said {shown(got[1])}, status {got[2]}; not {shown(want[0])}, {shown(want[1])}, {want[2]}")
-    print(f"lister: {len(CASES)} inputs, free_ground: {len(FREE)}, and {len(runs)} runs of lister, free_ground, sums and sample with input, output or arguments that fail, and of sums on long input; {wrong} wrong")
+    print(f"lister: {len(CASES)} inputs, free_ground: {len(FREE)}, uefi_lister: {len(UEFI)}, and {len(runs)} runs of these, sums and sample with input, output or arguments that fail, and of sums on long input; {wrong} wrong")
     return 1 if wrong else 0
 
 

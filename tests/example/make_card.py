@@ -2,6 +2,8 @@
 """Makes the cards that the gate compares with, from the UEFI specification (2.10, chapter 5) alone: no code of this library is used.
 
 make_card.py lister   document 01's example: 68 blocks of 512 bytes, slot 1 at 34 to 34 (crates/lister/stdin)
+make_card.py free_ground  a card with holes before, between and after its two slots   (crates/free_ground/stdin)
+make_card.py uefi_lister  another maker's card: a header of 512 bytes, entries of 512     (crates/uefi_lister/stdin)
 make_card.py sample   the sample card: 128 blocks of 512 bytes, three slots           (crates/sample/stdout)
 make_card.py sums     the lines `digest of the image` of crates/cases/stdout, in their order
 """
@@ -55,7 +57,37 @@ def card(blocks, size, entries, fill=0, after=0):
     return bytes(image)
 
 
+def wide_header(own, other, usable, start, array, each, stated=92, inside=b""):
+    """Table 5-5 once more, of any HeaderSize: `inside` stands from byte 92 on, and zeros after it up to that size, which the check sum covers."""
+    def packed(own_sum):
+        front = b"EFI PART" + struct.pack("<IIII", 0x00010000, stated, own_sum, 0) + struct.pack("<QQQQ", own, other, *usable) + guid(0)
+        return (front + struct.pack("<QIII", start, len(array) // each, each, zlib.crc32(array)) + inside).ljust(stated, b"\0")
+    return packed(zlib.crc32(packed(0)))
+
+
+def other_card(blocks, size, slots, each=128, count=128, off=0, **more):
+    """Another maker's card: so many entries of `each` bytes, of which these slots hold bytes; header and array on both sides, as short as they may be. Each header names the
+    block `off` after its own as its own."""
+    array = b"".join(slots.get(slot, b"").ljust(each, b"\0") for slot in range(1, count + 1))
+    per = -(-len(array) // size)
+    last = blocks - 1
+    usable = 2 + per, last - per - 1
+    image = bytearray(blocks * size)
+    for own, other, start in ((1, last, 2), (last, 1, last - per)):
+        for block, data in ((start, array), (own, wide_header(own + off, other, usable, start, array, each, **more))):
+            image[block * size:block * size + len(data)] = data
+    image[:512] = protective_mbr(last)
+    return bytes(image)
+
+
+def other_slots(each):
+    """Slots of another maker: used ones, one with bytes after 128, and one that is absent by its type alone, although it has other bytes."""
+    return {1: entry(1, 34, 65, "map 2026-11-15"), 2: bytes(16) + entry(2, 40, 50, "gone")[16:], 3: entry(3, 66, 85, "h\u00f6hen \u9ad8\u7a0b"),
+            16: entry(4, 86, 94, "notes").ljust(each, b"\xa5")}
+
+
 CARDS = {
+    "uefi_lister": lambda: other_card(128, 512, other_slots(512), each=512, count=16, stated=512, inside=b"another maker"),
     "lister": lambda: card(68, 512, [entry(1, 34, 34, "map")]),
     "free_ground": lambda: card(128, 512, [entry(1, 60, 69, "roads"), entry(2, 36, 49, "map")]),
     "sample": lambda: card(128, 512, [entry(1, 34, 65, "map 2026-11-15"), entry(2, 66, 85, "roads"), entry(3, 86, 94, "notes")]),

@@ -1,5 +1,6 @@
 #!/usr/bin/env python3
 """Cards that we lay are read and verified by sgdisk, sfdisk, fdisk and parted (sgdisk and sfdisk at 512 alone), and cards that they make are checked, listed and changed by us.
+Tables that the card check refuses, of theirs and of an independent maker, are read by UEFI (document 02, 9/13).
 
 Run by `make interop`, which builds libcard.so first. Every step is a line; a step that fails says what it saw and makes the exit status 1.
 """
@@ -10,8 +11,10 @@ import tempfile
 import uuid
 
 ROOT = os.path.dirname(os.path.dirname(os.path.dirname(os.path.abspath(__file__))))
-sys.path.insert(0, os.path.join(ROOT, "hosts", "python"))
+sys.path[:0] = [os.path.join(ROOT, "hosts", "python"), os.path.join(ROOT, "tests", "example")]
+sys.dont_write_bytecode = True
 import card  # noqa: E402
+import make_card  # noqa: E402
 
 os.environ["PATH"] += ":/usr/sbin:/sbin"
 os.environ["LC_ALL"] = "C"
@@ -171,6 +174,77 @@ def others(folder):
     step("a card of 16 MiB that sfdisk made has first usable 2,048: 16", refusal(lambda: card.check(load(path), 512)) == 16, str(refusal(lambda: card.check(load(path), 512))))
 
 
+def by_uefi(what, image, size, want, stated=92, each=128, count=None):
+    """Both tables are read by UEFI: the header's numbers, and the slots."""
+    for table, name in ((card.FRONT, "front"), (card.BACK, "back")):
+        number = refusal(lambda: card.uefi_listing(image, size, table))
+        step(f"{what}: the {name} table is read by UEFI", number == 0, str(number))
+        if number:
+            continue
+        header = card.uefi_header(image, size, table)
+        saw = (header.size, header.entry_size, header.entries)
+        step(f"{what}: the {name} header has its numbers", saw == (stated, each, header.entries if count is None else count), str(saw))
+        saw = [(e.slot, e.record.first, e.record.last) for e in card.uefi_listing(image, size, table)]
+        step(f"{what}: the {name} listing is theirs", saw == want, str(saw)[:300])
+
+
+def theirs_by_uefi(folder):
+    """Cards of the four tools, with other entry counts and usable blocks than a card has."""
+    path, pair = os.path.join(folder, "uefi.img"), [(1, 80, 99), (2, 100, 200)]
+
+    def fresh(size, blocks):
+        with open(path, "wb") as f:
+            f.truncate(blocks * size)
+
+    for count in (16, 56, 128, 132, 256):
+        fresh(512, 2048)
+        code, said = run("sgdisk", "-a", "1", "-o", "-S", str(count), "-n", "1:80:99", "-n", "2:100:200", path)
+        step(f"sgdisk makes {count} entries", code == 0, said)
+        by_uefi(f"a card that sgdisk made with {count} entries", load(path), 512, pair, count=count)
+        number = refusal(lambda: card.check(load(path), 512))
+        step(f"a card that sgdisk made with {count} entries: our check gives {0 if count == 128 else 16}", number == (0 if count == 128 else 16), str(number))
+    fresh(512, 32768)
+    run("sfdisk", path, text="label: gpt\nstart=4096, size=10\n")
+    by_uefi("a card of 16 MiB that sfdisk made", load(path), 512, [(1, 4096, 4105)], count=128)
+    fresh(512, 32768)
+    run("sfdisk", path, text="label: gpt\ntable-length: 64\nstart=4096, size=10\n")
+    by_uefi("a card that sfdisk made with 64 entries", load(path), 512, [(1, 4096, 4105)], count=64)
+    for size, blocks in ((512, 2048), (4096, 2048)):
+        fresh(size, blocks)
+        run("fdisk", "-b", str(size), path, text="g\nn\n1\n80\n99\nn\n2\n100\n200\nw\n" if size * blocks < 8 << 20 else "g\nn\n1\n280\n299\nn\n2\n300\n400\nw\n")
+        by_uefi(f"a card that fdisk made at {size}", load(path), size, pair if size * blocks < 8 << 20 else [(1, 280, 299), (2, 300, 400)], count=128)
+        fresh(size, blocks)
+        for words in (("mklabel", "gpt"), ("mkpart", "a", "80s", "99s"), ("mkpart", "b", "100s", "200s")):
+            run("parted", "-s", "-a", "none", path, *words, env={"PARTED_SECTOR_SIZE": str(size)})
+        by_uefi(f"a card that parted made at {size}", load(path), size, pair, count=128)
+
+
+def made_by_uefi():
+    """Cards of the independent maker: headers of 92 to 4,096 stated bytes, entries of 128 to 4,096, and one thing wrong in each of some more."""
+    want = [(1, 34, 65), (3, 66, 85), (16, 86, 94)]
+    for size in (512, 4096):
+        for stated in (92, 96, 128, 512, 4096):
+            for each in (128, 256, 512, 1024, 2048, 4096):
+                image = make_card.other_card(300, size, make_card.other_slots(each), each, 16, stated=min(stated, size), inside=b"another maker"[:min(stated, size) - 92])
+                by_uefi(f"a header of {min(stated, size)} bytes and entries of {each} at {size}", image, size, want, min(stated, size), each, 16)
+        wrong = {
+            "a header of 91 bytes": (make_card.other_card(300, size, {}, stated=91), 29),
+            "a header longer than its block": (make_card.other_card(300, size, {}, stated=size + 1), 29),
+            "entries of 384": (make_card.other_card(300, size, {}, each=384), 7),
+            "entries of 8,192": (make_card.other_card(300, size, {}, each=8192, count=4), 7),
+            "entries of 64": (make_card.other_card(300, size, {}, each=64), 7),
+        }
+        good = bytearray(make_card.other_card(300, size, {}, stated=100))
+        for block in (1, 299):
+            good[block * size + 100] = 1
+        wrong["a byte after the stated size"] = good, 30
+        wrong["headers that name the block after theirs"] = make_card.other_card(300, size, {}, off=1), 31
+        for what, (image, number) in wrong.items():
+            for table, name in ((card.FRONT, "front"), (card.BACK, "back")):
+                saw = refusal(lambda: card.uefi_listing(image, size, table))
+                step(f"{what} at {size}, {name}: {number}", saw == number, str(saw))
+
+
 def main():
     with tempfile.TemporaryDirectory() as folder:
         path = os.path.join(folder, "ours.img")
@@ -181,6 +255,8 @@ def main():
                     accepted_by_all(f"{blocks} blocks of {size}, {used} used", path, our_card(blocks, size, used), size)
         others(folder)
         flags(folder)
+        theirs_by_uefi(folder)
+    made_by_uefi()
     print(f"interop: {steps} steps, {failures} failed")
     return 1 if failures else 0
 

@@ -2,13 +2,14 @@
 
 import struct
 
+import foreign
 import headers
 import images
 import maps
 import model
 import states
 from draws import BAD_BLOCK_SIZES, ENTRY_SIZES, SLOTS
-from entries import ROW, Flags, record_from
+from entries import Flags, record_from
 from sums import FRESH, crc32
 from units import ALL_64, NIL
 
@@ -17,13 +18,6 @@ def slot(draw, image, b):
     """A slot: an edge, a used one or any."""
     used = list(images.used_blocks(image, b))
     return draw.pick(draw.pick((SLOTS, used or SLOTS, range(1, 129), range(1, 129))))
-
-
-def rows(draw, count):
-    """A lent row: exact, one byte short, longer, or of any length."""
-    exact = ROW * count
-    length = draw.pick((exact, exact, exact - 1, exact + 1, exact - ROW, exact + ROW + draw.below(200), draw.below(300)))
-    return draw.data(max(length, 0))
 
 
 def put_record(draw, image, b):
@@ -182,12 +176,12 @@ def array_slot_call(draw, image, b):
 def array_rows_call(draw, image, b):
     """The same with a lent row."""
     header, size = array_call(draw, image, b)
-    return header, size, rows(draw, model.CALLS["gpt_count_partitions"](image, header, size)[1][0])
+    return header, size, draw.rows(model.CALLS["gpt_count_partitions"](image, header, size)[1][0])
 
 
 def list_call(draw, image, b):
     """A block size and a lent row for the listing."""
-    return draw.block_size(b), rows(draw, model.CALLS["card_count_used"](image, b)[1][0])
+    return draw.block_size(b), draw.rows(model.CALLS["card_count_used"](image, b)[1][0])
 
 
 def number_row(draw, count):
@@ -233,7 +227,7 @@ def map_clear_call(draw, image, b):
 
 def reader_list_call(draw, image, b):
     """A block size and a lent row for the reader's listing."""
-    return draw.block_size(b), rows(draw, model.CALLS["card_reader_count"](image, b)[1][0])
+    return draw.block_size(b), draw.rows(model.CALLS["card_reader_count"](image, b)[1][0])
 
 
 def next_stage_call(draw, image, b):
@@ -297,6 +291,16 @@ ON_IMAGE = {
     "gpt_count_partitions": array_call,
     "gpt_next_partition": array_slot_call,
     "gpt_file_read_partitions": array_rows_call,
+    "gpt_uefi_read_primary_header": size_only,
+    "gpt_uefi_read_backup_header": size_only,
+    "gpt_uefi_count_partitions": foreign.array_call,
+    "gpt_uefi_next_partition": foreign.slot_call,
+    "gpt_uefi_read_partition": foreign.slot_call,
+    "gpt_uefi_file_read_partitions": foreign.rows_call,
+    "gpt_uefi_count_primary": size_only,
+    "gpt_uefi_count_backup": size_only,
+    "gpt_uefi_list_primary": foreign.list_call("primary"),
+    "gpt_uefi_list_backup": foreign.list_call("backup"),
     "gpt_mbr_from_image": size_only,
     "gpt_mbr_overwrite": lambda draw, image, b: (draw.mbr(),),
     "gpt_mbr_update_conservative": lambda draw, image, b: (draw.mbr(),),

@@ -4,6 +4,9 @@ documents."""
 from collections import Counter
 
 CHECK = {0, 1, 8, 10, 4, 5, 16, 6, 17}
+UEFI_PRIMARY = {0, 1, 2, 4, 29, 5, 30, 31}
+UEFI_BACKUP = {0, 1, 8, 4, 29, 5, 30, 31}
+UEFI_ARRAY = {0, 1, 7, 3, 2, 6}
 READER = {0, 1, 8, 10, 27}
 NUMBERS = {
     "card_lay": {0, 1, 8, 10},
@@ -59,6 +62,17 @@ NUMBERS = {
     "gpt_count_partitions": {0, 1, 3, 7, 2, 6},
     "gpt_next_partition": {0, 1, 3, 7, 2, 6},
     "gpt_file_read_partitions": {0, 1, 3, 7, 2, 6, 15},
+    "gpt_uefi_read_primary_header": UEFI_PRIMARY,
+    # The backup's block always fits.
+    "gpt_uefi_read_backup_header": UEFI_BACKUP,
+    "gpt_uefi_count_partitions": UEFI_ARRAY,
+    "gpt_uefi_next_partition": UEFI_ARRAY,
+    "gpt_uefi_read_partition": UEFI_ARRAY | {18},
+    "gpt_uefi_file_read_partitions": UEFI_ARRAY | {15},
+    "gpt_uefi_count_primary": UEFI_PRIMARY | UEFI_ARRAY,
+    "gpt_uefi_count_backup": UEFI_BACKUP | UEFI_ARRAY,
+    "gpt_uefi_list_primary": UEFI_PRIMARY | UEFI_ARRAY | {15},
+    "gpt_uefi_list_backup": UEFI_BACKUP | UEFI_ARRAY | {15},
     "gpt_mbr_new": {0},
     "gpt_mbr_protective_record": {0},
     "gpt_mbr_from_bytes": {0, 1, 12, 13},
@@ -124,6 +138,9 @@ STEPS = {
     "gpt_build": BUILDS,
     "gpt_build_from_header": BUILDS,
     "gpt_bytes_len": {(3, "count"), (3, "product")},
+    "gpt_uefi_read_primary_header": {(29, "below 92"), (29, "above B")},
+    "gpt_uefi_read_backup_header": {(29, "below 92"), (29, "above B")},
+    "gpt_uefi_count_partitions": {(7, "above 4,096"), (7, "up to 4,096")},
     "gpt_write_entry": PRODUCTS,
     "gpt_write_zero_entries": PRODUCTS | {(3, "zeroed length")},
 }

@@ -87,6 +87,12 @@ class Draw:
         reserved = 0 if self.chance(50) else self.pick((self.pick(RESERVED), self.below(2**45), self.number()))
         return self.below(2), self.below(2), self.below(2), reserved, self.number(16)
 
+    def rows(self, count):
+        """A lent row: exact, one byte short, longer, or of any length."""
+        exact = entries.ROW * count
+        lengths = (exact, exact, exact - 1, exact + 1, exact - entries.ROW, exact + entries.ROW + self.below(200), self.below(300))
+        return self.data(max(self.pick(lengths), 0))
+
     def record(self, near=()):
         """A partition record with any blocks, near the given ones at times."""
         first = self.number(64, near)

@@ -11,6 +11,7 @@ import fixed_reader
 import fixed_repair
 import fixed_states
 import fixed_twins
+import fixed_uefi
 import fixed_update
 import headers
 import mbr
@@ -104,7 +105,7 @@ def card_cases(calls):
 
 
 PULLED = (*fixed_reader.GROUPS, *fixed_update.GROUPS, *fixed_states.GROUPS, *fixed_repair.GROUPS)
-REQUESTS = (*fixed_twins.GROUPS, *fixed_flags.GROUPS, *fixed_places.GROUPS, fixed_ground.ground_cases, fixed_maps.map_cases, *PULLED)
+REQUESTS = (*fixed_twins.GROUPS, *fixed_flags.GROUPS, *fixed_places.GROUPS, fixed_ground.ground_cases, fixed_maps.map_cases, *fixed_uefi.GROUPS, *PULLED)
 GROUPS = (built_fields, small_cases, running_cases, card_cases, *REQUESTS)
 
 

@@ -10,6 +10,7 @@ import mbr
 import reader
 import stages
 import sums
+import uefi
 
-PARTS = (card, ground, maps, stages, reader, sums, headers, builder, entries, mbr)
+PARTS = (card, ground, maps, stages, reader, sums, headers, builder, entries, uefi, mbr)
 CALLS = {name: function for part in PARTS for name, function in vars(part).items() if hasattr(function, "lent")}

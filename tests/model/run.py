@@ -11,6 +11,7 @@ import compare
 import coverage
 import damage
 import fixed
+import foreign
 import images
 import library
 import model
@@ -81,6 +82,13 @@ class Rounds:
         self.judge(steps + hurt, hurt_image, "card_put", args)
         self.judge(steps + hurt, hurt_image, "card_start_put", args)
         self.ask(steps + hurt, hurt_image, b, 8)
+
+    def ask_foreign(self, steps, image, b):
+        """The calls of both reading editions on an image with tables by another maker."""
+        hurt = foreign.tables(self.draw, image, b)
+        foreign_image = images.made_from(image, hurt)
+        for name in foreign.CALLS:
+            self.judge(steps + hurt, foreign_image, name, cases.ON_IMAGE[name](self.draw, foreign_image, b))
 
     def ask_loose(self, b, how_many):
         """Some calls that take no image."""
@@ -153,6 +161,8 @@ class Rounds:
         for _ in range(8):
             self.ask_hurt(steps, image, b, damage.damage(draw, image, b))
         pulled.ask_pulled(self, steps, image, b)
+        for _ in range(4):
+            self.ask_foreign(steps, image, b)
         self.ask_loose(b, 38)
         self.ask_cut()
 

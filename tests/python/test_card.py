@@ -13,6 +13,7 @@ import pickle
 import random
 import re
 import shutil
+import struct
 import subprocess
 import sys
 import tempfile
@@ -527,6 +528,73 @@ class PulledFiles(unittest.TestCase):
         with large_image() as (file, image), little_memory(self):
             card.put_staged(f"/proc/self/fd/{file.fileno()}", 512, 2, record(34 + LARGE // 512, 34 + LARGE // 512))
             self.assertEqual([entry.slot for entry in card.listing(image, 512)], [1, 2])
+
+
+def other(stated=92, each=128, count=128, size=512, blocks=300):
+    """A card of another maker, by UEFI alone: its sums are zlib's. Slot 2 is used, and slot 3 has bytes but no type."""
+    entry = card.BASIC_DATA.bytes_le + uuid.UUID(int=5).bytes_le + struct.pack("<QQQ", 40, 41, 5) + "north".encode("utf-16-le").ljust(72, b"\0")
+    array = bytearray(count * each)
+    array[each : each + 128] = entry
+    array[2 * each + 16 : 2 * each + 128] = entry[16:]
+    image = bytearray(blocks * size)
+    image[2 * size : 2 * size + len(array)] = array
+    for own, theirs in ((1, blocks - 1), (blocks - 1, 1)):
+        front = struct.pack("<8sII", b"EFI PART", 0x10000, stated)
+        back = struct.pack("<IQQQQ16sQIII", 0, own, theirs, 200, 250, DISK.bytes_le, 2, count, each, zlib.crc32(array)) + bytes([7]) * (stated - 92)
+        image[own * size : own * size + stated] = front + zlib.crc32(front + bytes(4) + back).to_bytes(4, "little") + back
+    return image
+
+
+class OtherMakers(unittest.TestCase):
+    """The tables of other makers, by UEFI."""
+
+    def test_headers_and_entries_of_other_sizes(self):
+        for size, stated, each, count in ((512, 92, 128, 128), (512, 96, 256, 300), (512, 512, 4096, 16), (4096, 4096, 1024, 100), (4096, 100, 128, 256)):
+            image = bytes(other(stated, each, count, size, 3000))
+            for table, block, theirs in ((card.FRONT, 1, 2999), (card.BACK, 2999, 1)):
+                header = card.uefi_header(image, size, table)
+                want = ((1, 0), stated, 0, block, theirs, 200, 250, DISK, 2, count, each)
+                saw = (header.revision, header.size, header.reserved, header.block, header.other_block, header.first_usable, header.last_usable, header.guid)
+                self.assertEqual((*saw, header.array_block, header.entries, header.entry_size), want)
+                self.assertEqual((header.sum, header.array_sum), struct.unpack_from("<I68xI", image, block * size + 16))
+                entries = card.uefi_listing(image, size, table)
+                self.assertEqual(entries, [card.Entry(2, record(40, 41, "north", guid=uuid.UUID(int=5), flags=card.Flags.of_bits(5)))])
+
+    def test_more_than_128_slots(self):
+        image = other(count=200)
+        raw = image[1024 + 128 : 1024 + 256]
+        image[1024 : 1024 + 200 * 128] = raw * 200
+        for own in (1, 299):
+            at = own * 512
+            image[at + 88 : at + 92] = zlib.crc32(raw * 200).to_bytes(4, "little")
+            image[at + 16 : at + 20] = bytes(4)
+            image[at + 16 : at + 20] = zlib.crc32(image[at : at + 92]).to_bytes(4, "little")
+        for table in (card.FRONT, card.BACK):
+            self.assertEqual([entry.slot for entry in card.uefi_listing(image, 512, table)], list(range(1, 201)))
+
+    def test_refusals_of_each_table(self):
+        dirty, moved, odd = other(100), other(), other(each=384)
+        dirty[512 + 100] = dirty[299 * 512 + 511] = 1
+        moved[512:1024], moved[-512:] = moved[-512:], moved[512:1024]
+        for image, size, numbers in ((dirty, 512, (30, 30)), (moved, 512, (31, 31)), (odd, 512, (7, 7)), (bytes(1023), 512, (2, 8)), (b"", 1024, (1, 1)), (bytes(4096), 512, (4, 4))):
+            for table, number in zip((card.FRONT, card.BACK), numbers):
+                with self.assertRaises(card.Refused) as caught:
+                    card.uefi_listing(image, size, table)
+                self.assertEqual((caught.exception.number, caught.exception.place), (number, card.NOWHERE))
+        with self.assertRaises(card.Refused) as caught:
+            card.uefi_header(other(93)[:512] + other(513, size=4096)[4096:4608] + bytes(512), 512)
+        self.assertEqual(caught.exception.number, 29)
+
+    def test_a_card_reads_alike(self):
+        image = filled()
+        self.assertEqual(card.uefi_listing(image, 512), card.listing(image, 512))
+        self.assertEqual(card.uefi_listing(image, 512, card.BACK), card.listing(image, 512))
+
+    def test_the_table_is_front_or_back(self):
+        for call in (card.uefi_header, card.uefi_listing):
+            for table in (card.NOWHERE, card.SLOT, "front"):
+                with self.assertRaises(ValueError):
+                    call(filled(), 512, table)
 
 
 class Refusals(unittest.TestCase):

@@ -36,7 +36,7 @@ last_is() { [ "$(printf '%s\n' "$said" | tail -n 1)" = "$1" ]; }
 mkdir -p "$copy/crates" "$copy/tests"
 cp -R Makefile README.md crates.txt .ci scripts "$copy/"
 cp -R tests/example "$copy/tests/"
-cp -R crates/lister crates/free_ground crates/sample crates/cases "$copy/crates/"
+cp -R crates/lister crates/free_ground crates/uefi_lister crates/sample crates/cases "$copy/crates/"
 
 # Two folders of commands: in the first there is no rt, no compiler and no Python; the second has the stand-ins.
 plain="$room/plain"

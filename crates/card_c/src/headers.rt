@@ -64,7 +64,7 @@ pub fn zero_header() -> Header
     }
 }
 
-fn header_to_c(r: HeaderRead) -> GptHeaderRead
+pub fn header_to_c(r: HeaderRead) -> GptHeaderRead
     ensures { λ o. ⌜ o ≡ headerToC (readMeans r) ⌝ }
 {
     match r {

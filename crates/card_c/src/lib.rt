@@ -1,8 +1,9 @@
 // The library's calls for C and for whatever links as C does: include/card.h has their prototypes. Numbers, slices and #[repr(C)] structs cross, and a slice
 // crosses as a pointer and a length. Each export is one proved call and the way its
-// answer is told to C; card_list, card_reader_list, gpt_file_read_partitions and gpt_entry_from_bytes are made of leaves.
+// answer is told to C; gpt_entry_from_bytes and the calls that fill lent bytes with rows are made of leaves.
 mod answers; // answers.rt: the structs that come back, and how each answer becomes one
 mod building; // building.rt: the header builder
+mod by_uefi; // by_uefi.rt: the second reading edition
 mod cards; // cards.rt: the card calls
 mod entries; // entries.rt: partition entries
 mod grounds; // grounds.rt: the free ground

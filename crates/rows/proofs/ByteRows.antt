@@ -12,12 +12,12 @@ use Rattle.units.proofs.Lists.{sets-then, and-then}
 use Rattle.units.proofs.Laws.{length-bytes, num-here}
 use Rattle.partition.specs.Flags.{Joins}
 use Rattle.partition.specs.Format.{entryAt, entryBytes}
-use Rattle.partition.specs.Array.{entryPlace}
 use Rattle.partition.proofs.FlagLaws.{flags-join}
 use Rattle.partition.proofs.Laws as partition
 use Rattle.rows.specs.declared.Entry.{Entry}
 use Rattle.rows.specs.declared.inner.Plan.{Plan}
-use Rattle.rows.specs.Row.{entryOf}
+use Rattle.rows.specs.Slots.{placeEach}
+use Rattle.rows.specs.Row.{entryEach}
 use Rattle.rows.specs.Plans.{InArray, Made, entriesBy, entryBy, slotAfter, planned, planWithin, roomed, countBy}
 use Rattle.rows.proofs.Laws.{left, left-step, by-plan}
 use Rattle.rows.specs.RowBytes.{rowBytes, rowsBytes, bytesOutcome}
@@ -40,13 +40,13 @@ record-length xs at = partition.length-entry (entryAt xs at) (partition.length-c
 
 -- and the flags that were read can be joined again
 pub row-joins : (xs : List ℕ) (p : Plan) (s : Slot) {e : Entry} → e ≡ entryBy xs p s → Joins (e .partition .flags)
-unfolding entryOf
+unfolding entryEach
 row-joins xs p s f = rw f (flags-join _)
 
 pub row-length : (xs : List ℕ) (p : Plan) (s : Slot) → length (rowBytes (entryBy xs p s)) ≡ 136
-unfolding rowBytes entryOf
+unfolding rowBytes entryEach
 row-length xs p s =
-    let at : ℕ = entryPlace (p .place .0) (s .0 - 1) in
+    let at : ℕ = placeEach (p .each) (p .place .0) (s .0 - 1) in
     omega (arith, length-append (bytes 8 (s .0)) (entryBytes (entryAt xs at)), length-bytes 8 (s .0), record-length xs at)
 
 -- ---- the loop: i rows are stored, and the entries after slot s are left

@@ -27,11 +27,12 @@ use Rattle.header.specs.declared.Header.{Header}
 use Rattle.partition.specs.declared.Partition.{Partition}
 use Rattle.partition.specs.Format.{entryAt}
 use Rattle.partition.specs.Array.{entryPlace, present, presentFrom, firstSlot, arrayFound}
-use Rattle.partition.proofs.Ways.{inside-filled}
 use Rattle.rows.specs.declared.Entry.{Entry}
 use Rattle.rows.specs.declared.inner.Plan.{Plan}
-use Rattle.rows.specs.Row.{entryOf, presentEntries, partitionsRead, rowOutcome, RowEnds}
-use Rattle.rows.specs.Plans.{Lies, InArray, Made, entriesBy, entryBy, slotAfter, planned, noPlan, nowhere, planWithin, roomed, countBy, plainly, entriesFound}
+use Rattle.rows.specs.Slots.{slotsFrom, firstAfter, placeEach, typedEach}
+use Rattle.rows.specs.Row.{entryOf, presentEntries, entryEach, typedEntries, partitionsRead, rowOutcome, RowEnds}
+use Rattle.rows.specs.Plans.{Lies, listedBy, InArray, Made, entriesBy, entryBy, slotAfter, planned, noPlan, nowhere, planWithin, roomed, countBy, plainly, entriesFound}
+use Rattle.rows.proofs.Slots.{first-edition, entry-within}
 
 pub length-map : {A B : Type 0} (f : A → B) (l : List A) → length (map f l) ≡ length l
 length-map f [] = refl
@@ -42,17 +43,21 @@ pub length-present : (xs : List ℕ) (at n : ℕ) → length (presentEntries xs 
 unfolding presentEntries
 length-present xs at n = length-map (entryOf xs at) (presentFrom xs at 0 n)
 
--- an array of no entries has none present
-pub no-entries : (xs : List ℕ) (at n : ℕ) → n ≡ 0 → presentEntries xs at n ≡ []
-unfolding presentEntries presentFrom
-no-entries xs at n e = rw e
+pub length-typed : (xs : List ℕ) (each at n : ℕ) → length (typedEntries xs each at n) ≡ length (slotsFrom (typedEach xs each at) 0 n)
+unfolding typedEntries
+length-typed xs each at n = length-map (entryEach xs each at) (slotsFrom (typedEach xs each at) 0 n)
+
+-- an array of no entries has none that is listed
+pub no-entries : (xs : List ℕ) (p : Plan) → p .entries ≡ 0 → entriesBy xs p ≡ []
+unfolding entriesBy slotsFrom
+no-entries xs p e = rw e
 
 -- ---- plans
 
 module _ (xs : List ℕ) where
   pub made-none : (w : Reason) → Made xs (noPlan w)
-  unfolding insideOrEmpty entriesBy presentEntries presentFrom
-  made-none w = record { lies = refl; counted = refl; idle = λ e. refl }
+  unfolding insideOrEmpty entriesBy slotsFrom
+  made-none w = record { lies = record { size = omega arith; within = refl; whole = λ e. refl }; counted = refl; idle = λ e. refl }
 
   pub planned-none : (w : Reason) → planned xs (noPlan w) ≡ refused (whyAt w)
   unfolding planned
@@ -61,12 +66,40 @@ module _ (xs : List ℕ) where
   -- the plan that lists an array
   module _ (at : BytePlace) (n k : ℕ) (i : insideOrEmpty (length xs) (at .0) (n * 128) ≡ true) (e : k ≡ length (presentFrom xs (at .0) 0 n)) where
     abbrev listing : Plan
-    listing = record { place = at; entries = n; present = k; verdict = verdict.Accepted }
+    listing = record { place = at; entries = n; each = 128; «by_type» = false; present = k; verdict = verdict.Accepted }
+
+    -- what it lists are the present entries
+    listed : entriesBy xs listing ≡ presentEntries xs (at .0) n
+    unfolding entriesBy presentEntries entryEach entryOf
+    listed = ap (map (entryOf xs (at .0))) (sym (first-edition xs (at .0) 0 n))
 
     pub made-listing : Made xs listing × (planned xs listing ≡ accepted (presentEntries xs (at .0) n))
-    unfolding entriesBy planned
-    made-listing =
-        (record { lies = i; counted = e ∙ sym (length-present xs (at .0) n); idle = λ f. absurd (let z : _≡_ {A = ℕ} 0 1 = cc in omega arith) }, refl)
+    unfolding planned
+    made-listing = (
+      record {
+        lies = record { size = omega arith; within = i; whole = λ f. refl };
+        counted = e ∙ sym (length-present xs (at .0) n) ∙ ap length (sym listed);
+        idle = λ f. absurd (let z : _≡_ {A = ℕ} 0 1 = cc in omega arith);
+      },
+      ap accepted listed,
+    )
+
+  -- the plan that lists an array by the types of its entries
+  module _ (at : BytePlace) (n each k : ℕ) (g : 128 ≤ each) (i : insideOrEmpty (length xs) (at .0) (n * each) ≡ true)
+      (e : k ≡ length (slotsFrom (typedEach xs each (at .0)) 0 n)) where
+    abbrev by-type : Plan
+    by-type = record { place = at; entries = n; each = each; «by_type» = true; present = k; verdict = verdict.Accepted }
+
+    pub made-by-type : Made xs by-type × (planned xs by-type ≡ accepted (typedEntries xs each (at .0) n))
+    unfolding planned entriesBy typedEntries
+    made-by-type = (
+      record {
+        lies = record { size = g; within = i; whole = λ f. absurd (let z : _≡_ {A = ℕ} 0 1 = cc in omega arith) };
+        counted = e ∙ sym (length-typed xs each (at .0) n);
+        idle = λ f. absurd (let z : _≡_ {A = ℕ} 0 1 = cc in omega arith);
+      },
+      refl,
+    )
 
   -- the array that a header names
   module _ (h : Header) (b : ℕ) {p : Plan} where
@@ -102,8 +135,7 @@ module _ (m : ℕ) (p : Plan) where
 
     -- a plan that refuses has no entries
     none-refused : {w : Why} → cardMeans (p .verdict) ≡ refused w → p .present ≡ 0
-    unfolding entriesBy
-    none-refused e = d .counted ∙ ap length (no-entries xs (p .place .0) (p .entries) (d .idle e))
+    none-refused e = d .counted ∙ ap length (no-entries xs p (d .idle e))
 
     -- so no row is too short for it, and 15 is that of what the plan says
     planned-within : planned xs (planWithin m p) ≡ roomed m (planned xs p)
@@ -172,66 +204,84 @@ read-plainly xs h b m row =
 -- ---- one entry
 
 module _ (xs : List ℕ) (p : Plan) (s : Slot) (l : Lies xs p) (i : InArray p s) where
-  -- an array with a slot ends inside the image, and so does the entry in the slot
-  pub array-ends : p .place .0 + p .entries * 128 ≤ length xs
-  array-ends = inside-filled (length xs) (p .place .0) (p .entries * 128) l (λ z. omega arith)
+  -- the entry in a slot ends inside the image
+  pub slot-ends : p .place .0 + (s .0 - 1) * p .each + 128 ≤ length xs
+  slot-ends = entry-within (length xs) (p .place .0) (p .each) (p .entries) (s .0 - 1) (l .size) (l .within) (omega (arith, i .0, i .1))
 
-  pub entry-ends : {a : ℕ} → a ≡ entryPlace (p .place .0) (s .0 - 1) → a + 128 ≤ length xs
-  entry-ends e = omega (arith, array-ends)
+  pub entry-ends : {a : ℕ} → a ≡ placeEach (p .each) (p .place .0) (s .0 - 1) → a + 128 ≤ length xs
+  entry-ends e = omega (arith, slot-ends)
 
-  pub entry-read : {a : ℕ} {q : Partition} → a ≡ entryPlace (p .place .0) (s .0 - 1) → q ≡ entryAt xs a → record { slot = s; partition = q } ≡ entryBy xs p s
-  unfolding entryOf
-  entry-read {a} {q} e f = let g : q ≡ entryAt xs (entryPlace (p .place .0) (s .0 - 1)) = f ∙ ap (λ (k : ℕ). entryAt xs k) e in ap (λ (k : Partition). record { slot = s; partition = k }) g
+  pub entry-read : {a : ℕ} {q : Partition} → a ≡ placeEach (p .each) (p .place .0) (s .0 - 1) → q ≡ entryAt xs a → record { slot = s; partition = q } ≡ entryBy xs p s
+  unfolding entryEach
+  entry-read {a} {q} e f = let g : q ≡ entryAt xs (placeEach (p .each) (p .place .0) (s .0 - 1)) = f ∙ ap (λ (k : ℕ). entryAt xs k) e in ap (λ (k : Partition). record { slot = s; partition = k }) g
 
 -- ---- the entries that are left after a slot, one by one
 
--- a slot that is present comes before those after it
-from-step : (xs : List ℕ) (at j k n : ℕ) → length (presentFrom xs at k n) ≡ suc j
-    → let s : ℕ = getD (presentFrom xs at k n) 0 0 in (presentFrom xs at k n ≡ s ∷ presentFrom xs at s (k + n - s)) × (k < s) × (s ≤ k + n)
-unfolding presentFrom
-from-step xs at j k zero e = absurd (let z : _≡_ {A = ℕ} 0 (suc j) = e in omega arith)
-from-step xs at j k (suc n) e = go (present xs at k) e (from-step xs at j (k + 1) n)
+-- a slot that the test finds comes before those after it
+from-step : (u : ℕ → Bool) (j k n : ℕ) → length (slotsFrom u k n) ≡ suc j
+    → let s : ℕ = getD (slotsFrom u k n) 0 0 in (slotsFrom u k n ≡ s ∷ slotsFrom u s (k + n - s)) × (k < s) × (s ≤ k + n)
+unfolding slotsFrom
+from-step u j k zero e = absurd (let z : _≡_ {A = ℕ} 0 (suc j) = e in omega arith)
+from-step u j k (suc n) e = go (u k) e (from-step u j (k + 1) n)
   where
     l : List ℕ
-    l = presentFrom xs at (k + 1) n
+    l = slotsFrom u (k + 1) n
 
     -- the first of a list, and what is past it
     First : ℕ → List ℕ → Type 0
-    First i m = let s : ℕ = getD m 0 0 in (m ≡ s ∷ presentFrom xs at s (k + suc n - s)) × (i < s) × (s ≤ k + suc n)
+    First i m = let s : ℕ = getD m 0 0 in (m ≡ s ∷ slotsFrom u s (k + suc n - s)) × (i < s) × (s ≤ k + suc n)
 
     go : (t : Bool) → length (pick t ((k + 1) ∷ l) l) ≡ suc j
-        → (length l ≡ suc j → (l ≡ getD l 0 0 ∷ presentFrom xs at (getD l 0 0) (k + 1 + n - getD l 0 0)) × (k + 1 < getD l 0 0) × (getD l 0 0 ≤ k + 1 + n))
+        → (length l ≡ suc j → (l ≡ getD l 0 0 ∷ slotsFrom u (getD l 0 0) (k + 1 + n - getD l 0 0)) × (k + 1 < getD l 0 0) × (getD l 0 0 ≤ k + 1 + n))
         → First k (pick t ((k + 1) ∷ l) l)
     go true f g =
         let m : k + suc n - (k + 1) ≡ n = omega arith in
-        (ap (λ (i : ℕ). (k + 1) ∷ presentFrom xs at (k + 1) i) (sym m), omega arith, omega arith)
+        (ap (λ (i : ℕ). (k + 1) ∷ slotsFrom u (k + 1) i) (sym m), omega arith, omega arith)
     go false f g =
         let r = g f in
         let m : k + 1 + n ≡ k + suc n = omega arith in
         (rw m at (r .0), omega (arith, r .1), omega (arith, r .2))
 
 module _ (xs : List ℕ) (p : Plan) where
-  -- the present entries after slot s
+  -- the listed entries after slot s
   unfoldable pub left : Slot → List Entry
-  left s = map (entryOf xs (p .place .0)) (presentFrom xs (p .place .0) (s .0) (p .entries - s .0))
+  left s = map (entryEach xs (p .each) (p .place .0)) (slotsFrom (listedBy xs p) (s .0) (p .entries - s .0))
 
   -- slot 0 stands before the first
   pub left-all : left (record { 0 = 0 }) ≡ entriesBy xs p
-  unfolding left entriesBy presentEntries
+  unfolding left entriesBy
   left-all = rw sub-zero
 
   -- where any are left, the next slot is one of the array's, and its entry is the first of them
   pub left-step : (s : Slot) (j : ℕ) → length (left s) ≡ suc j
       → InArray p (slotAfter xs p s) × (left s ≡ entryBy xs p (slotAfter xs p s) ∷ left (slotAfter xs p s))
-  unfolding left slotAfter firstSlot
+  unfolding left slotAfter firstAfter
   left-step s j e =
-      let at : ℕ = p .place .0 in
+      let u : ℕ → Bool = listedBy xs p in
       let n : ℕ = p .entries - s .0 in
-      let f : length (presentFrom xs at (s .0) n) ≡ suc j = sym (length-map (entryOf xs at) (presentFrom xs at (s .0) n)) ∙ e in
-      let r = from-step xs at j (s .0) n f in
-      let t : ℕ = getD (presentFrom xs at (s .0) n) 0 0 in
+      let f : length (slotsFrom u (s .0) n) ≡ suc j = sym (length-map (entryEach xs (p .each) (p .place .0)) (slotsFrom u (s .0) n)) ∙ e in
+      let r = from-step u j (s .0) n f in
+      let t : ℕ = getD (slotsFrom u (s .0) n) 0 0 in
       let m : s .0 + n - t ≡ p .entries - t = omega (arith, r .1, r .2) in
-      ((omega (arith, r .1), omega (arith, r .1, r .2)), ap (map (entryOf xs at)) (r .0 ∙ ap (λ (i : ℕ). t ∷ presentFrom xs at t i) m))
+      ((omega (arith, r .1), omega (arith, r .1, r .2)), ap (map (entryEach xs (p .each) (p .place .0))) (r .0 ∙ ap (λ (i : ℕ). t ∷ slotsFrom u t i) m))
+
+-- ---- the next slot, by the types and by the 128 bytes
+
+module _ (xs : List ℕ) (p : Plan) (s : Slot) where
+  test : Bool → ℕ → Bool
+  test t k = pick t (typedEach xs (p .each) (p .place .0) k) (present xs (p .place .0) k)
+
+  after-by : (t : Bool) {k : Slot} → p .«by_type» ≡ t → k .0 ≡ firstAfter (test t) (p .entries) (s .0) → k ≡ slotAfter xs p s
+  unfolding slotAfter test
+  after-by t e f = ap (λ (x : ℕ). record { 0 = x }) (f ∙ ap (λ (v : Bool). firstAfter (test v) (p .entries) (s .0)) (sym e))
+
+  pub after-by-type : {k : Slot} → p .«by_type» ≡ true → k .0 ≡ firstAfter (typedEach xs (p .each) (p .place .0)) (p .entries) (s .0) → k ≡ slotAfter xs p s
+  unfolding test
+  after-by-type e f = after-by true e f
+
+  pub after-whole : {k : Slot} → p .«by_type» ≡ false → k .0 ≡ firstSlot xs (p .place .0) (p .entries) (s .0) → k ≡ slotAfter xs p s
+  unfolding test firstSlot firstAfter
+  after-whole e f = after-by false e (f ∙ ap (λ (l : List ℕ). getD l 0 0) (first-edition xs (p .place .0) (s .0) (p .entries - s .0)))
 
 -- ---- a plan that was carried out
 
@@ -247,7 +297,7 @@ by-answer xs q d Q f g = go (cardMeans (q .verdict)) refl
     go : (v : Answer Unit) → cardMeans (q .verdict) ≡ v
         → Q (andThen (cardMeans (q .verdict)) (λ u. accepted es)) (andThen (cardMeans (q .verdict)) (λ u. accepted (q .present))) es
     go (accepted u) h = rw (h, d .counted) (f es)
-    go (refused w) h = let n : es ≡ [] = no-entries xs (q .place .0) (q .entries) (d .idle h) in rw (h, n) (g w)
+    go (refused w) h = let n : es ≡ [] = no-entries xs q (d .idle h) in rw (h, n) (g w)
 
 -- the same of a plan for m places
 pub by-plan : (xs : List ℕ) (m : ℕ) (p : Plan) → Made xs p → {q : Plan} → q ≡ planWithin m p → (Q : Answer (List Entry) → Answer ℕ → List Entry → Type 0)

@@ -1,8 +1,8 @@
--- A reading before a row is lent to it: a plan by value, which says where the array stands, how many of its entries are present, and whether the reading accepts.
+-- A reading before a row is lent to it: a plan by value, which says where the array stands, how many of its entries are listed, and whether the reading accepts.
 -- Every call that fills a row makes such a plan; only 15 depends on the row. From document 01, "Reading the array" and "Listing". Assumes nothing.
 use mathlib.Core.Path.{_≡_}
-use mathlib.Core.Bool.{true}
-use mathlib.Core.List.{List}
+use mathlib.Core.Bool.{Bool, true, false}
+use mathlib.Core.List.{List, map}
 use Prim.Native.Nat.{ℕ, _*_, _≤_}
 use lib.Dec.{ltb}
 use lib.ListN.{length}
@@ -17,35 +17,42 @@ use Rattle.units.specs.Answer.{Answer, accepted, refused, refuse, dropped, pick
 use Rattle.units.specs.Places.{insideOrEmpty}
 use Rattle.units.specs.Meanings.{cardMeans}
 use Rattle.header.specs.declared.Header.{Header}
-use Rattle.partition.specs.Array.{firstSlot, arrayFound}
+use Rattle.partition.specs.Array.{present, arrayFound}
 use Rattle.rows.specs.declared.Entry.{Entry}
 use Rattle.rows.specs.declared.inner.Plan.{Plan}
-use Rattle.rows.specs.Row.{entryOf, presentEntries}
+use Rattle.rows.specs.Slots.{slotsFrom, firstAfter, typedEach}
+use Rattle.rows.specs.Row.{presentEntries, entryEach}
 
--- the plan's array lies inside the image, or has no entries
-abbrev pub Lies : List ℕ → Plan → Type 0
-Lies xs p = insideOrEmpty (length xs) (p .place .0) (p .entries * 128) ≡ true
+-- the plan's array lies inside the image, or has no entries; an entry has 128 bytes or more, and exactly 128 where it is judged by all of them
+pub record Lies (xs : List ℕ) (p : Plan) : Type 0 where
+  pub size : 128 ≤ p .each
+  pub within : insideOrEmpty (length xs) (p .place .0) (p .entries * p .each) ≡ true
+  pub whole : p .«by_type» ≡ false → p .each ≡ 128
 
--- the present entries of the plan's array
+-- which entries of the plan's array are listed: those whose type is not nil, or those whose 128 bytes are not all zero
+abbrev pub listedBy : List ℕ → Plan → ℕ → Bool
+listedBy xs p k = pick (p .«by_type») (typedEach xs (p .each) (p .place .0) k) (present xs (p .place .0) k)
+
+-- these entries, ascending
 unfoldable pub entriesBy : List ℕ → Plan → List Entry
-entriesBy xs p = presentEntries xs (p .place .0) (p .entries)
+entriesBy xs p = map (entryEach xs (p .each) (p .place .0)) (slotsFrom (listedBy xs p) 0 (p .entries))
 
 -- a slot of the plan's array, and the entry in it
 abbrev pub InArray : Plan → Slot → Type 0
 InArray p s = (1 ≤ s .0) × (s .0 ≤ p .entries)
 
 abbrev pub entryBy : List ℕ → Plan → Slot → Entry
-entryBy xs p s = entryOf xs (p .place .0) (s .0)
+entryBy xs p s = entryEach xs (p .each) (p .place .0) (s .0)
 
--- the first present slot after a slot, or slot 0
+-- the first listed slot after a slot, or slot 0
 unfoldable pub slotAfter : List ℕ → Plan → Slot → Slot
-slotAfter xs p s = record { 0 = firstSlot xs (p .place .0) (p .entries) (s .0) }
+slotAfter xs p s = record { 0 = firstAfter (listedBy xs p) (p .entries) (s .0) }
 
--- what a plan says of its image: a refusal, or the present entries
+-- what a plan says of its image: a refusal, or the listed entries
 unfoldable pub planned : List ℕ → Plan → Answer (List Entry)
 planned xs p = andThen (cardMeans (p .verdict)) (λ u. accepted (entriesBy xs p))
 
--- a plan that was made on an image: its array lies inside, its count is that of the present entries, and a refusal has no entries
+-- a plan that was made on an image: its array lies inside, its count is that of the listed entries, and a refusal has no entries
 pub record Made (xs : List ℕ) (p : Plan) : Type 0 where
   pub lies : Lies xs p
   pub counted : p .present ≡ length (entriesBy xs p)
@@ -53,7 +60,7 @@ pub record Made (xs : List ℕ) (p : Plan) : Type 0 where
 
 -- a refusal's plan
 abbrev pub noPlan : Reason → Plan
-noPlan w = record { place = record { 0 = 0 }; entries = 0; present = 0; verdict = verdict.Refused w }
+noPlan w = record { place = record { 0 = 0 }; entries = 0; each = 128; «by_type» = false; present = 0; verdict = verdict.Refused w }
 
 -- a refusal that names no place
 abbrev pub nowhere : Refusal → Reason

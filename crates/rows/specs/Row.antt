@@ -10,6 +10,7 @@ use Rattle.header.specs.declared.Header.{Header}
 use Rattle.partition.specs.Format.{entryAt}
 use Rattle.partition.specs.Array.{entryPlace, presentFrom, arrayFound}
 use Rattle.rows.specs.declared.Entry.{Entry}
+use Rattle.rows.specs.Slots.{slotsFrom, placeEach, typedEach}
 
 -- the entry in slot s of an array at byte place at
 unfoldable pub entryOf : List ℕ → ℕ → ℕ → Entry
@@ -18,6 +19,14 @@ entryOf xs at s = record { slot = record { 0 = s }; partition = entryAt xs (entr
 -- the present ones of its n entries, ascending by slot
 unfoldable pub presentEntries : List ℕ → ℕ → ℕ → List Entry
 presentEntries xs at n = map (entryOf xs at) (presentFrom xs at 0 n)
+
+-- the entry in slot s of an array of entries of `each` bytes, from its first 128
+unfoldable pub entryEach : List ℕ → ℕ → ℕ → ℕ → Entry
+entryEach xs each at s = record { slot = record { 0 = s }; partition = entryAt xs (placeEach each at (s - 1)) }
+
+-- those of its n entries that are used by their type, ascending by slot
+unfoldable pub typedEntries : List ℕ → ℕ → ℕ → ℕ → List Entry
+typedEntries xs each at n = map (entryEach xs each at) (slotsFrom (typedEach xs each at) 0 n)
 
 -- 1, 3, 7, 2, 6, then 15 if more entries are present than a row of m records has places
 unfoldable pub partitionsRead : List ℕ → Header → ℕ → ℕ → Answer (List Entry)

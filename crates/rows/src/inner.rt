@@ -2,6 +2,7 @@
 // A reading is first planned by value, which makes every test but that of the row's length.
 // Then `fill` fills the row, or `fill_bytes` lent bytes, 136 a row, for callers to whom a row of records cannot be lent.
 use crate::Entry;
+use crate::by_type;
 use header::Header;
 use partition::PartitionCount;
 use units::BytePlace;
@@ -19,16 +20,19 @@ ghost use lib.Seq.{sets};
 ghost use Rattle.units.specs.Answer.{accepted, Ends};
 ghost use Rattle.units.specs.Places.{insideOrEmpty};
 ghost use Rattle.partition.specs.Flags.{Joins};
-ghost use Rattle.partition.specs.Array.{entryPlace};
 ghost use Rattle.partition.specs.Meanings.{countMeans};
-ghost use Rattle.rows.specs.Row.{presentEntries, rowOutcome, RowEnds};
+ghost use Rattle.rows.specs.Slots.{placeEach};
+ghost use Rattle.rows.specs.Row.{presentEntries, typedEntries, rowOutcome, RowEnds};
 ghost use Rattle.rows.specs.RowBytes.{rowBytes, bytesOutcome};
 ghost use Rattle.rows.specs.Plans.{Lies, InArray, Made, entryBy, slotAfter, planned, noPlan, nowhere, planWithin, roomed, countBy, plainly, entriesFound};
 
-// Where an array stands and how many entries it has, how many of them are present, and whether the reading accepts. A refusal has no entries, and the place that it names.
+// Where an array stands, how many entries it has and of how many bytes, whether those count whose type is not nil, or whose 128 bytes are not all zero, how many these are, and
+// whether the reading accepts. A refusal has no entries, and the place that it names.
 pub struct Plan {
     pub place: BytePlace,
     pub entries: u32,
+    pub each: u32,
+    pub by_type: bool,
     pub present: u32,
     pub verdict: CardVerdict,
 }
@@ -41,6 +45,8 @@ impl Plan {
         Plan {
             place: BytePlace(0),
             entries: 0,
+            each: 128,
+            by_type: false,
             present: 0,
             verdict: CardVerdict::Refused(w),
         }
@@ -66,6 +72,24 @@ impl Plan {
         Plan {
             place,
             entries,
+            each: 128,
+            by_type: false,
+            present,
+            verdict: CardVerdict::Accepted,
+        }
+    }
+
+    // The plan that lists, by their types, the entries of `each` bytes of an array which lies inside the image.
+    pub fn listing_by_type(img: &[u8], place: BytePlace, entries: u32, each: u32) -> Plan
+        requires { ⌜ (128 ≤ each) × (insideOrEmpty (length (now img)) (place .0) (entries * each) ≡ true) ⌝ }
+        ensures { λ r. ⌜ Made (now (img .entry)) r × (planned (now (img .entry)) r ≡ accepted (typedEntries (now (img .entry)) each (place .0) entries)) ⌝ }
+    {
+        let present = by_type::count_used(img, place, each, entries);
+        Plan {
+            place,
+            entries,
+            each,
+            by_type: true,
             present,
             verdict: CardVerdict::Accepted,
         }
@@ -104,21 +128,25 @@ impl Plan {
 
     // Where the entry in a slot of the array stands: slots count from 1, array places from 0.
     pub fn entry_place(self, s: Slot) -> BytePlace
-        requires { ⌜ InArray self s × (self .place .0 + self .entries * 128 < 2 ^ 64) ⌝ }
-        ensures { λ r. ⌜ r .0 ≡ entryPlace (self .place .0) (s .0 - 1) ⌝ }
+        requires { ⌜ InArray self s × (self .place .0 + (s .0 - 1) * self .each < 2 ^ 64) ⌝ }
+        ensures { λ r. ⌜ r .0 ≡ placeEach (self .each) (self .place .0) (s .0 - 1) ⌝ }
     {
         let k = units::inner::array_place(s);
-        BytePlace(self.place.0 + (k as usize) * 128)
+        let at = self.place;
+        by_type::entry_place(at, self.each, k)
     }
 }
 
-// The first present slot after a slot, where slot 0 stands before the first; 0 where there is none.
+// The first slot after a slot that counts, where slot 0 stands before the first; 0 where there is none.
 pub fn next_slot(img: &[u8], p: Plan, after: Slot) -> Slot
     requires { ⌜ Lies (now img) p ⌝ }
     ensures { λ r. ⌜ r ≡ slotAfter (now (img .entry)) p after ⌝ }
 {
-    let at = p.place.0;
-    partition::inner::next_present(img, at, p.entries, after)
+    let place = p.place;
+    if p.by_type {
+        return by_type::next_used(img, place, p.each, p.entries, after);
+    }
+    partition::inner::next_present(img, place.0, p.entries, after)
 }
 
 // The entry in a slot of the array, by value.

@@ -1,6 +1,7 @@
 // The entry array that a header names, read into a row of records that the caller lends.
-// Here stands the public call: it takes every image, every number and every row. `inner` has the leaves for our own crates.
-pub mod inner;
+// Here stands the public call: it takes every image, every number and every row. The two modules have the leaves for our own crates.
+pub mod by_type; // by_type.rt: entries of any size, by their types
+pub mod inner; // inner.rt: plans, and how they are carried out
 
 use header::Header;
 use partition::Partition;

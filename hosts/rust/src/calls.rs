@@ -168,9 +168,14 @@ pub fn list(image: &[u8], block_size: BlockSize) -> Result<Listing, Refused> {
     })
 }
 
-/// Lends new rows for all slots to a call, as a pointer and a length in bytes, which says how many it filled.
+/// Lends new rows for all slots of a card to a call, as a pointer and a length in bytes, which says how many it filled.
 pub(crate) fn rows(fill: impl FnOnce(*mut u8, usize) -> Result<u32, Refused>) -> Result<Listing, Refused> {
-    let mut rows = vec![ffi::card_row::ZERO; SLOTS as usize];
+    so_many_rows(SLOTS, fill)
+}
+
+/// The same of so many rows.
+pub(crate) fn so_many_rows(room: u32, fill: impl FnOnce(*mut u8, usize) -> Result<u32, Refused>) -> Result<Listing, Refused> {
+    let mut rows = vec![ffi::card_row::ZERO; room as usize];
     let count = fill(rows.as_mut_ptr().cast::<u8>(), size_of_val(rows.as_slice()))?;
     rows.truncate(count as usize);
     Ok(Listing { rows: rows.into_iter() })

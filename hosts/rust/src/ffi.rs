@@ -148,6 +148,16 @@ functions! {
     fn gpt_count_partitions(img: *const u8, img_len: usize, header: gpt_header, b: u64) -> gpt_count;
     fn gpt_next_partition(img: *const u8, img_len: usize, header: gpt_header, b: u64, after: u32) -> gpt_next;
     fn gpt_file_read_partitions(img: *const u8, img_len: usize, header: gpt_header, b: u64, out: *mut u8, out_len: usize) -> gpt_count;
+    fn gpt_uefi_read_primary_header(img: *const u8, img_len: usize, b: u64) -> gpt_header_read;
+    fn gpt_uefi_read_backup_header(img: *const u8, img_len: usize, b: u64) -> gpt_header_read;
+    fn gpt_uefi_read_partition(img: *const u8, img_len: usize, header: gpt_header, b: u64, slot: u32) -> gpt_slot_read;
+    fn gpt_uefi_count_partitions(img: *const u8, img_len: usize, header: gpt_header, b: u64) -> gpt_count;
+    fn gpt_uefi_next_partition(img: *const u8, img_len: usize, header: gpt_header, b: u64, after: u32) -> gpt_next;
+    fn gpt_uefi_file_read_partitions(img: *const u8, img_len: usize, header: gpt_header, b: u64, out: *mut u8, out_len: usize) -> gpt_count;
+    fn gpt_uefi_count_primary(img: *const u8, img_len: usize, b: u64) -> gpt_count;
+    fn gpt_uefi_count_backup(img: *const u8, img_len: usize, b: u64) -> gpt_count;
+    fn gpt_uefi_list_primary(img: *const u8, img_len: usize, b: u64, out: *mut u8, out_len: usize) -> gpt_count;
+    fn gpt_uefi_list_backup(img: *const u8, img_len: usize, b: u64, out: *mut u8, out_len: usize) -> gpt_count;
     fn gpt_mbr_new(lb_size: u32) -> gpt_mbr;
     fn gpt_mbr_protective_record(lb_size: u32) -> gpt_part_record;
     fn gpt_mbr_from_bytes(buf: *const u8, buf_len: usize, b: u64) -> gpt_mbr_read;

@@ -4,7 +4,7 @@ use std::{error, fmt};
 /// Declares the refusals of the table once: their numbers, names and meanings. 22 and 25 stand beside them, since they carry a slot.
 macro_rules! refusals {
     ($($number:literal $name:ident: $meaning:literal,)*) => {
-        /// Why a call was refused. A refused call changed no byte of the image. Of the numbers from 29 on a call gives 33 alone yet: each other one comes with its change request.
+        /// Why a call was refused. A refused call changed no byte of the image. Of the numbers from 32 on a call gives 33 alone yet: each other one comes with its change request.
         #[derive(Clone, Copy, Debug, PartialEq, Eq, Hash)]
         pub enum Refusal {
             $(#[doc = concat!(stringify!($number), ": ", $meaning, ".")] $name,)*

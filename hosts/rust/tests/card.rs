@@ -1,6 +1,7 @@
 //! The card calls one by one: what they accept, each refusal that they can give, and that a refused call changes no byte.
 use card::{
-    check, crc32_next, free_runs, get, list, BlockSize, Card, Entry, Flags, Guid, GuidError, Name, NameError, Place, Record, Refusal, Refused, FRESH, SLOTS,
+    check, crc32_next, free_runs, get, list, uefi_header, uefi_list, BlockSize, Card, Entry, Flags, Guid, GuidError, Name, NameError, Place, Record, Refusal,
+    Refused, Table, FRESH, SLOTS,
 };
 use BlockSize::{B4096, B512};
 
@@ -410,6 +411,60 @@ fn a_sum_goes_on_from_piece_to_piece() {
     }
     assert_eq!((crc32_next(1, b"123456789"), crc32_next(u32::MAX, b"123456789")), (0xdc8f_2d65, 0xd202_d277));
     // zlib's
+}
+
+/// A table of another maker: a header of 100 stated bytes in block 1, for four entries of 256 bytes in block 3, of which slot 4 is used and slot 2 has bytes of nil type.
+fn other_maker() -> Vec<u8> {
+    let mut image = vec![0; 8 * 512];
+    image[3 * 512 + 256 + 16..3 * 512 + 512].fill(0xee);
+    let at = 3 * 512 + 3 * 256;
+    image[at..at + 16].copy_from_slice(&Guid::BASIC_DATA.to_bytes());
+    image[at + 32..at + 40].copy_from_slice(&50u64.to_le_bytes());
+    image[at + 40..at + 48].copy_from_slice(&51u64.to_le_bytes());
+    image[at + 56] = b'n';
+    let parts = crc32(&image[3 * 512..5 * 512]);
+    for (own, other) in [(1u64, 7u64), (7, 1)] {
+        let at = own as usize * 512;
+        image[at..at + 8].copy_from_slice(b"EFI PART");
+        for (place, number) in [(24, own), (32, other), (72, 3)] {
+            image[at + place..at + place + 8].copy_from_slice(&number.to_le_bytes());
+        }
+        for (place, number) in [(8, 0x10000), (12, 100), (80, 4), (84, 256), (88, parts)] {
+            image[at + place..at + place + 4].copy_from_slice(&number.to_le_bytes());
+        }
+        image[at + 92..at + 100].fill(7);
+        let own_sum = crc32(&image[at..at + 100]);
+        image[at + 16..at + 20].copy_from_slice(&own_sum.to_le_bytes());
+    }
+    image
+}
+
+#[test]
+fn tables_of_other_makers_are_read_by_uefi() {
+    let size = BlockSize::B512;
+    let mut image = other_maker();
+    for (table, block) in [(Table::Front, 1), (Table::Back, 7)] {
+        let header = uefi_header(&image, size, table).unwrap();
+        assert_eq!((header.header_size_le, header.current_lba, header.part_start, header.num_parts, header.part_size), (100, block, 3, 4, 256));
+        let entries: Vec<Entry> = uefi_list(&image, size, table).unwrap().collect();
+        assert_eq!(entries.len(), 1);
+        assert_eq!((entries[0].slot, entries[0].record.first, entries[0].record.last, entries[0].record.name.to_string()), (4, 50, 51, "n".into()));
+    }
+    let refused = |image: &[u8], table| uefi_list(image, size, table).map(|_| ()).unwrap_err().refusal;
+    assert_eq!((refused(&image[..1023], Table::Front), refused(&image[..1023], Table::Back)), (Refusal::Short, Refusal::ToSmallForBackup));
+    assert_eq!(uefi_header(&image[512..], size, Table::Front).unwrap_err().refusal, Refusal::InvalidGptSignature);
+    image[2 * 512 - 1] = 1;
+    assert_eq!(refused(&image, Table::Front), Refusal::DirtyBlock);
+    let front = image[7 * 512..].to_vec();
+    image[512..1024].copy_from_slice(&front);
+    assert_eq!(refused(&image, Table::Front), Refusal::WrongPlace);
+    image[7 * 512 + 12] = 91;
+    assert_eq!(refused(&image, Table::Back), Refusal::BadHeaderSize);
+    let mut image = laid(size, 100);
+    Card::open(&mut image, size).unwrap().put(7, &record(40, 41, "a")).unwrap();
+    for table in [Table::Front, Table::Back] {
+        assert!(uefi_list(&image, size, table).unwrap().eq(list(&image, size).unwrap()));
+    }
 }
 
 #[test]

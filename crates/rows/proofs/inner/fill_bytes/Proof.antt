@@ -1,7 +1,7 @@
 -- `rows::inner::fill_bytes` meets its contract. The invariant: with the rows that are left stored, the lent bytes are those that are asked for. Assumes nothing.
 use mathlib.Core.Path.{_≡_, refl, sym, ap, _∙_}
 use mathlib.Core.List.{List}
-use Prim.Native.Nat.{_+_, _*_, _-_, _<_}
+use Prim.Native.Nat.{_+_, _*_, _-_, _^_, _<_}
 use native.Mathlib.Omega.{arith}
 use lib.ListN.{length}
 use lib.Seq.{sets}
@@ -52,7 +52,12 @@ entry-in-requires c κs =
     )
 
 mul-t15 : tie.Need-mul-t15 Inv-loop μ-loop
-mul-t15 c = let a = c .before .before .before .before .before .before .before .before .before .args in let h = plan-fits _ (a .p) (c .before .before .before .before .before .before .within .ensures) in search needs
+mul-t15 c =
+    let s = c .before .before .before .before .before .before .before .before .before in
+    let h = plan-fits _ (s .args .p) (c .before .before .before .before .before .before .within .ensures) in
+    let l : length (s .args .out .now) < 2 ^ 64 = omega (arith, s .good .1 .1 .0) in
+    let f : 136 * c .before .before .before .before .loop .i < 2 ^ 64 = omega (arith, h, l) in
+    search needs
 
 put-row-requires : tie.Need-put-row-requires Inv-loop μ-loop
 put-row-requires c κs =
