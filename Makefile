@@ -124,6 +124,7 @@ lister-test:
 python: lib
 	python3 hosts/python/card.py
 	python3 tests/python/test_card.py
+	python3 tests/python/test_files.py
 
 # Runs the tests of the Rust crate and of the example in its text. Cargo asks no registry.
 rust: lib rust-outside

@@ -39,7 +39,7 @@ extern "C" {
 #define CARD_AT(type, field, place) CARD_ASSERT(offsetof(type, field) == (place), "the place of " #field " in " #type)
 
 /* The bytes of stack that a call needs at most. Of these the check sum's table is 16,384, in every call that sums anything but one header of 92 bytes; all else was at
-   most 2,280 when it was last measured. tests/c/stack.c measures every call, and makes it on a thread of 24 KiB. */
+   most 2,632 when it was last measured. tests/c/stack.c measures every call, and makes it on a thread of 24 KiB. */
 #define CARD_STACK 20480
 
 /* The numbers that a call comes back with. A call's tests run in the order in which its numbers are listed beside it; 1 is always first. */
@@ -76,7 +76,7 @@ enum card_number {
     CARD_BAD_HEADER_SIZE = 29,         /* the header's stated size is below 92 or above the block size */
     CARD_DIRTY_BLOCK = 30,             /* the header's block has other bytes than zero after the header */
     CARD_WRONG_PLACE = 31,             /* the header names another block than the one it was read from */
-    /* Of the numbers from 32 on a call gives 33 alone yet: each other one comes with its change request. */
+    /* Of the numbers from 34 on no call gives one yet: each comes with its change request. */
     CARD_WINDOW_LENGTH = 32,           /* a window is not as long as the card asks for */
     CARD_TABLE_FULL = 33,              /* all 128 slots are used */
     CARD_BAD_MARK = 34,                /* the map does not begin with the mark FBM */
@@ -274,7 +274,7 @@ CARD_AT(card_answer, slot, 4);
 CARD_AT(card_answer, place, 8);
 CARD_AT(card_answer, differs, 12);
 
-/* bytes: how many were stored. */
+/* bytes: how many were stored, or read by card_read_payload. */
 typedef struct card_stored {
     uint32_t number;
     uint32_t place;
@@ -638,6 +638,125 @@ card_repair_step card_start_repair(uint8_t *img, size_t img_len, uint64_t b);
    1, 26 as card_next_stage. */
 card_repair_step card_next_repair(uint8_t *img, size_t img_len, uint64_t b, uint32_t stage, card_repair state);
 
+/* ---- a card by two windows: for cards that are larger than memory
+
+   With A blocks of the array, 16,384 / b, and N blocks of the card, the head is the card's blocks 0 to A + 1, which are block 0 and the front table: b + b + 16,384 bytes. The tail is
+   its last A + 1 blocks, the back table: b + 16,384 bytes. So block k of the card stands in the head at k * b, and block N - 1 - A + k in the tail at k * b. blocks is N, the card's whole
+   number of blocks. A call on windows answers as the call of the same name on a whole image of so many blocks, and leaves the windows as those blocks would be left, whatever the middle
+   holds. Head and tail do not overlap.
+   Its numbers: 1; 3 if blocks times b passes 64 bits; 8 and 10 by blocks; 32 if either window is not exactly that long; then the numbers of the call on an image. In a later stage:
+   1, 26 (blocks times b, as a whole number, is the length that the state must name), then 32. 3 and 32 name no place. */
+
+/* card_lay: the MBR and the front table in the head, the back table in the tail. Of block 0 the bytes after the MBR's 512 stay.
+   1, 3, 8, 10, 32. */
+card_answer card_window_lay(uint8_t *head, size_t head_len, uint8_t *tail, size_t tail_len, uint64_t blocks, uint64_t b, gpt_guid guid);
+
+/* card_check.
+   1, 3, 8, 10, 32; 4, 5, 16, 6 of the primary table, place front; 4, 5, 16, 6 of the backup, place back; 17, place disk GUID or slot; 16, place front. These are the check's numbers on
+   windows. */
+card_answer card_window_check(const uint8_t *head, size_t head_len, const uint8_t *tail, size_t tail_len, uint64_t blocks, uint64_t b);
+
+/* card_put.
+   The check's numbers on windows, then 18, 19, 20, 21, 22, 25, 28. */
+card_answer card_window_put(uint8_t *head, size_t head_len, uint8_t *tail, size_t tail_len, uint64_t blocks, uint64_t b, uint32_t slot, gpt_partition partition);
+
+/* card_clear.
+   The check's numbers on windows, then 18. */
+card_answer card_window_clear(uint8_t *head, size_t head_len, uint8_t *tail, size_t tail_len, uint64_t blocks, uint64_t b, uint32_t slot);
+
+/* card_count_used.
+   The check's numbers on windows. */
+card_count card_window_count_used(const uint8_t *head, size_t head_len, const uint8_t *tail, size_t tail_len, uint64_t blocks, uint64_t b);
+
+/* card_next_used.
+   The check's numbers on windows. */
+card_next card_window_next_used(const uint8_t *head, size_t head_len, const uint8_t *tail, size_t tail_len, uint64_t blocks, uint64_t b, uint32_t after);
+
+/* card_read_slot.
+   The check's numbers on windows, then 18. */
+card_slot_read card_window_read_slot(const uint8_t *head, size_t head_len, const uint8_t *tail, size_t tail_len, uint64_t blocks, uint64_t b, uint32_t slot);
+
+/* card_nth_used.
+   The check's numbers on windows. */
+card_used_read card_window_nth_used(const uint8_t *head, size_t head_len, const uint8_t *tail, size_t tail_len, uint64_t blocks, uint64_t b, uint32_t k);
+
+/* card_list.
+   The check's numbers on windows, then 15 where out_len is less than 136 times the count. */
+card_count card_window_list(const uint8_t *head, size_t head_len, const uint8_t *tail, size_t tail_len, uint64_t blocks, uint64_t b, uint8_t *out, size_t out_len);
+
+/* card_free_runs: the runs of the whole card, also of its middle.
+   The check's numbers on windows, then 15 where either row has fewer places than there are runs. */
+card_count card_window_free_runs(const uint8_t *head, size_t head_len, const uint8_t *tail, size_t tail_len, uint64_t blocks, uint64_t b, uint64_t *starts, size_t starts_len, uint64_t *lengths, size_t lengths_len);
+
+/* card_map_make.
+   The check's numbers on windows. */
+card_map_made card_window_map_make(const uint8_t *head, size_t head_len, const uint8_t *tail, size_t tail_len, uint64_t blocks, uint64_t b);
+
+/* card_reader_copy: which window's array is the good one. It stands in the head at 2b, or in the tail at 0, 16,384 bytes.
+   1, 3, 8, 10, 32, 27. */
+card_copy card_window_reader_copy(const uint8_t *head, size_t head_len, const uint8_t *tail, size_t tail_len, uint64_t blocks, uint64_t b);
+
+/* card_reader_count.
+   1, 3, 8, 10, 32, 27. */
+gpt_count card_window_reader_count(const uint8_t *head, size_t head_len, const uint8_t *tail, size_t tail_len, uint64_t blocks, uint64_t b);
+
+/* card_reader_next.
+   1, 3, 8, 10, 32, 27. */
+gpt_next card_window_reader_next(const uint8_t *head, size_t head_len, const uint8_t *tail, size_t tail_len, uint64_t blocks, uint64_t b, uint32_t after);
+
+/* card_reader_slot.
+   1, 3, 8, 10, 32, 27, 18. */
+gpt_slot_read card_window_reader_slot(const uint8_t *head, size_t head_len, const uint8_t *tail, size_t tail_len, uint64_t blocks, uint64_t b, uint32_t slot);
+
+/* card_reader_list.
+   1, 3, 8, 10, 32, 27, 15 where out_len is less than 136 times the count. */
+gpt_count card_window_reader_list(const uint8_t *head, size_t head_len, const uint8_t *tail, size_t tail_len, uint64_t blocks, uint64_t b, uint8_t *out, size_t out_len);
+
+/* card_start_put. Stages one and two change one block of the tail each, stages three and four one of the head; the host has the device store it. The premises and what a host owes are those of
+   the stages on an image.
+   As card_window_put. */
+card_update_step card_window_start_put(uint8_t *head, size_t head_len, uint8_t *tail, size_t tail_len, uint64_t blocks, uint64_t b, uint32_t slot, gpt_partition partition);
+
+/* card_start_clear.
+   As card_window_clear. */
+card_update_step card_window_start_clear(uint8_t *head, size_t head_len, uint8_t *tail, size_t tail_len, uint64_t blocks, uint64_t b, uint32_t slot);
+
+/* card_next_stage. A state of windows leads on by a whole image of so many blocks too, and the other way round.
+   1, 26, 32. */
+card_update_step card_window_next_stage(uint8_t *head, size_t head_len, uint8_t *tail, size_t tail_len, uint64_t blocks, uint64_t b, uint32_t stage, card_update state);
+
+/* card_start_repair: every stage changes the tail, or where state.back is true the head.
+   1, 3, 8, 10, 32, 27. */
+card_repair_step card_window_start_repair(uint8_t *head, size_t head_len, uint8_t *tail, size_t tail_len, uint64_t blocks, uint64_t b);
+
+/* card_next_repair: an array block is copied from one window into the other.
+   1, 26, 32. */
+card_repair_step card_window_next_repair(uint8_t *head, size_t head_len, uint8_t *tail, size_t tail_len, uint64_t blocks, uint64_t b, uint32_t stage, card_repair state);
+
+/* ---- payload in files */
+
+/* at: the byte place in the card, counted from its first byte. */
+typedef struct card_spot {
+    uint32_t number;
+    uint32_t place;
+    uint32_t differs;
+    uint64_t at;
+} card_spot;
+CARD_SIZE(card_spot, 24);
+CARD_AT(card_spot, number, 0);
+CARD_AT(card_spot, place, 4);
+CARD_AT(card_spot, differs, 8);
+CARD_AT(card_spot, at, 16);
+
+/* Where n bytes at a place of a slot's partition stand in the card, which is where card_write_payload would store them.
+   The check's numbers, on windows those on windows, then 18, 23, 24. */
+card_spot card_payload_place(const uint8_t *img, size_t img_len, uint64_t b, uint32_t slot, size_t place, size_t n);
+card_spot card_window_payload_place(const uint8_t *head, size_t head_len, const uint8_t *tail, size_t tail_len, uint64_t blocks, uint64_t b, uint32_t slot, size_t place, size_t n);
+
+/* Reads out_len bytes at a place of a slot's partition into out: the answer's bytes is out_len.
+   The check's numbers, then 18, 23, 24; a refused call changes no byte of out. */
+card_stored card_read_payload(const uint8_t *img, size_t img_len, uint64_t b, uint32_t slot, size_t place, uint8_t *out, size_t out_len);
+
 /* ---- the ported calls: the check sum and headers */
 
 /* CRC-32/ISO-HDLC; of no bytes it is 0. It is gpt_crc32_next from 0. */
@@ -842,7 +961,7 @@ gpt_next gpt_uefi_next_partition(const uint8_t *img, size_t img_len, gpt_header 
    1, 7, 3, 2, 6, 15 where out_len is less than 136 times the count. */
 gpt_count gpt_uefi_file_read_partitions(const uint8_t *img, size_t img_len, gpt_header header, uint64_t b, uint8_t *out, size_t out_len);
 
-/* The same two with header and array in one call, of the primary table and of the backup: the header's numbers, and then 7, 3, 2, 6 and 15. */
+/* The same two with header and array in one call, of the primary table and of the backup: the header's numbers, and then 7, 3, 2, 6; of the two that list also 15. */
 gpt_count gpt_uefi_count_primary(const uint8_t *img, size_t img_len, uint64_t b);
 gpt_count gpt_uefi_count_backup(const uint8_t *img, size_t img_len, uint64_t b);
 gpt_count gpt_uefi_list_primary(const uint8_t *img, size_t img_len, uint64_t b, uint8_t *out, size_t out_len);

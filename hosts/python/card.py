@@ -1,6 +1,7 @@
 """The card calls for Python, over libcard.so: lay, check, put, clear, write_payload, listing, free_runs; slot_map and what goes with it; start_put, start_clear, next_stage,
 start_repair and next_repair, which change one block each, the reader of a card that was pulled between them (reader_..), and put_staged, clear_staged and repair_staged, which do all of it
-on a file; uefi_header and uefi_listing, which read the tables of other makers; and crc32_next, the check sum of bytes that come in pieces.
+on a file; uefi_header and uefi_listing, which read the tables of other makers; payload_place and read_payload; crc32_next, the check sum of bytes that come in pieces; and Card, all of
+this on a card in a file or a device of any size.
 
 An image is any writable buffer of contiguous bytes, such as a bytearray or an mmap; the calls that only read take read-only ones too, such as bytes. No call
 copies the image. A call that is refused raises Refused, with the number of the refusal (NUMBERS), and changes nothing.
@@ -76,6 +77,20 @@ Cards from other makers, with longer headers or other entries, are read by UEFI,
 >>> uefi_header(image, 512).size, [entry.slot for entry in uefi_listing(image, 512, BACK)]
 (92, [])
 
+A card in a file need not fit into memory. Card.open reads its two tables, and each call reads and writes nothing else but the payload's own bytes.
+
+>>> import tempfile
+>>> with tempfile.NamedTemporaryFile() as file:
+...     _ = file.truncate(64 << 30)
+...     with Card.open(file.name, 512, writable=True) as large:
+...         large.lay(uuid.UUID("5a3f1c20-11e7-4b6d-9c04-0242ac110000"))
+...         large.put_staged(large.lowest_free(), replace(record, first=2048, last=67108863))
+...         large.write_payload(1, 20 << 30, b"north ridge")
+...     with Card.open(file.name) as large:
+...         large.block_size, large.read_payload(1, 20 << 30, 11), large.free_runs()
+11
+(512, b'north ridge', [range(34, 2048), range(67108864, 134217695)])
+
 On a file, put_staged(path, 512, 2, record) has the device store each block before it makes the next stage. Two premises hold these promises up: a block is stored wholly or not at
 all, and nothing else writes the card between the stages. Repair only what check refuses: a repair of a whole card first destroys its back header. Hand a card to a
 tablet only after stage four or a finished repair.
@@ -86,6 +101,8 @@ where the system's loader looks.
 import contextlib
 import ctypes
 import errno
+import io
+import itertools
 import mmap
 import operator
 import os
@@ -128,9 +145,9 @@ NUMBERS = {
     29: ("BadHeaderSize", "the header's stated size is below 92 or above the block size"),
     30: ("DirtyBlock", "the header's block has other bytes than zero after the header"),
     31: ("WrongPlace", "the header names another block than the one it was read from"),
-    # Of the numbers from 32 on a call gives 33 alone yet: each other one comes with its change request.
     32: ("WindowLength", "a window is not as long as the card asks for"),
     33: ("TableFull", "all 128 slots are used"),
+    # Of these no call gives any yet: they come with their change request.
     34: ("BadMark", "the map does not begin with the mark FBM"),
     35: ("UnknownVersion", "the label's version is not 1"),
     36: ("BadDate", "the label's month or day does not exist"),
@@ -188,7 +205,10 @@ class Flags:
     @classmethod
     def of_bits(cls, bits):
         """The flags in 64 bits, whatever they are."""
-        f = _flags_of(_number(bits, 64, "the flags' bits"))
+        return cls._named(_flags_of(_number(bits, 64, "the flags' bits")))
+
+    @classmethod
+    def _named(cls, f):
         return cls(f.required, f.no_block_io, f.legacy_bootable, f.reserved, f.owner)
 
     def bits(self):
@@ -360,6 +380,18 @@ class _ReaderCount(ctypes.Structure):
     _fields_ = [("number", ctypes.c_uint32), ("count", ctypes.c_uint32)]
 
 
+class _SlotRead(ctypes.Structure):
+    _fields_ = [("number", ctypes.c_uint32), ("present", ctypes.c_bool), ("place", ctypes.c_uint32), ("differs", ctypes.c_uint32), ("record", _Record)]
+
+
+class _ReaderSlot(ctypes.Structure):
+    _fields_ = [("number", ctypes.c_uint32), ("present", ctypes.c_bool), ("record", _Record)]
+
+
+class _Spot(ctypes.Structure):
+    _fields_ = [("number", ctypes.c_uint32), ("place", ctypes.c_uint32), ("differs", ctypes.c_uint32), ("at", ctypes.c_uint64)]
+
+
 class _Header(ctypes.Structure):
     _fields_ = [("major", ctypes.c_uint16), ("minor", ctypes.c_uint16), ("size", ctypes.c_uint32), ("sum", ctypes.c_uint32), ("reserved", ctypes.c_uint32),
                 ("block", ctypes.c_uint64), ("other_block", ctypes.c_uint64), ("first_usable", ctypes.c_uint64), ("last_usable", ctypes.c_uint64), ("guid", _Guid),
@@ -400,7 +432,7 @@ class _Buffer(ctypes.Structure):
 
 
 for _struct, _size in ((_Flags, 16), (_Bits, 16), (_Record, 136), (_Entry, 128), (_Guid, 16), (_Answer, 16), (_Stored, 24), (_Count, 16), (_Next, 8), (_Row, 136), (_Map, 16),
-                       (_Made, 32), (_Carried, 32), (_Copy, 8), (_ReaderCount, 8), (_Header, 88), (_HeaderRead, 96), (_Update, 176), (_UpdateStep, 192), (_Repair, 48), (_RepairStep, 64),
+                       (_Made, 32), (_Carried, 32), (_Copy, 8), (_ReaderCount, 8), (_SlotRead, 152), (_ReaderSlot, 144), (_Spot, 24), (_Header, 88), (_HeaderRead, 96), (_Update, 176), (_UpdateStep, 192), (_Repair, 48), (_RepairStep, 64),
                        (_Buffer, 80)):
     if ctypes.sizeof(_struct) != _size:
         raise ImportError(f"{_struct.__name__} has {ctypes.sizeof(_struct)} bytes here, and not {_size}: this module is for x86-64")
@@ -465,9 +497,36 @@ _start_clear = _declare("card_start_clear", _UpdateStep, *_slice, ctypes.c_uint6
 _next_stage = _declare("card_next_stage", _UpdateStep, *_slice, ctypes.c_uint64, ctypes.c_uint32, _Update)
 _start_repair = _declare("card_start_repair", _RepairStep, *_slice, ctypes.c_uint64)
 _next_repair = _declare("card_next_repair", _RepairStep, *_slice, ctypes.c_uint64, ctypes.c_uint32, _Repair)
+_place = _declare("card_payload_place", _Spot, *_slice, ctypes.c_uint64, ctypes.c_uint32, ctypes.c_size_t, ctypes.c_size_t)
+_payload_read = _declare("card_read_payload", _Stored, *_slice, ctypes.c_uint64, ctypes.c_uint32, ctypes.c_size_t, *_slice)
 _flags_of = _declare("gpt_flags_of", _Flags, ctypes.c_uint64)
 _flags_bits = _declare("gpt_flags_bits", _Bits, _Flags)
 _sum_next = _declare("gpt_crc32_next", ctypes.c_uint32, ctypes.c_uint32, *_slice)
+
+
+def _on_windows(name, result, *arguments):
+    """A call on a head, a tail, a number of blocks and a block size."""
+    return _declare(f"card_window_{name}", result, *_slice, *_slice, ctypes.c_uint64, ctypes.c_uint64, *arguments)
+
+
+_window_lay = _on_windows("lay", _Answer, _Guid)
+_window_check = _on_windows("check", _Answer)
+_window_put = _on_windows("put", _Answer, ctypes.c_uint32, _Record)
+_window_clear = _on_windows("clear", _Answer, ctypes.c_uint32)
+_window_count = _on_windows("count_used", _Count)
+_window_slot = _on_windows("read_slot", _SlotRead, ctypes.c_uint32)
+_window_list = _on_windows("list", _Count, *_slice)
+_window_free_runs = _on_windows("free_runs", _Count, *_slice, *_slice)
+_window_map = _on_windows("map_make", _Made)
+_window_copy = _on_windows("reader_copy", _Copy)
+_window_reader_slot = _on_windows("reader_slot", _ReaderSlot, ctypes.c_uint32)
+_window_reader_list = _on_windows("reader_list", _ReaderCount, *_slice)
+_window_start_put = _on_windows("start_put", _UpdateStep, ctypes.c_uint32, _Record)
+_window_start_clear = _on_windows("start_clear", _UpdateStep, ctypes.c_uint32)
+_window_next_stage = _on_windows("next_stage", _UpdateStep, ctypes.c_uint32, _Update)
+_window_start_repair = _on_windows("start_repair", _RepairStep)
+_window_next_repair = _on_windows("next_repair", _RepairStep, ctypes.c_uint32, _Repair)
+_window_place = _on_windows("payload_place", _Spot, ctypes.c_uint32, ctypes.c_size_t, ctypes.c_size_t)
 
 
 _hold = ctypes.PYFUNCTYPE(ctypes.c_int, ctypes.py_object, ctypes.POINTER(_Buffer), ctypes.c_int)(("PyObject_GetBuffer", ctypes.pythonapi))
@@ -535,8 +594,10 @@ def _flags(f):
 
 
 def _read(e):
+    """The record of an entry, whose flags are bits, or of a record, where they have names."""
     text = bytes(e.name).decode("utf-16-le", "surrogatepass").split("\0", 1)[0]
-    return Record(uuid.UUID(bytes_le=bytes(e.type)), uuid.UUID(bytes_le=bytes(e.guid)), e.first, e.last, Flags.of_bits(e.flags), text)
+    flags = Flags._named(e.flags) if isinstance(e.flags, _Flags) else Flags.of_bits(e.flags)
+    return Record(uuid.UUID(bytes_le=bytes(e.type)), uuid.UUID(bytes_le=bytes(e.guid)), e.first, e.last, flags, text)
 
 
 def _map(m):
@@ -615,20 +676,45 @@ def write_payload(image, block_size, slot, place, data):
         return _take(_payload(*lent, _blocks(block_size), _number(slot, 32, "the slot"), _number(place, 64, "the place"), *source)).bytes
 
 
+def payload_place(image, block_size, slot, place, count):
+    """Where so many bytes at a place of a slot's partition stand in the card, counted from its first byte. The check's numbers, then 18, 23, 24."""
+    with _lent(image) as lent:
+        return _take(_place(*lent, _blocks(block_size), _number(slot, 32, "the slot"), _number(place, 64, "the place"), _number(count, 64, "the count"))).at
+
+
+def read_payload(image, block_size, slot, place, count):
+    """So many bytes from a place of a slot's partition on. The check's numbers, then 18, 23, 24."""
+    payload_place(image, block_size, slot, place, count)
+    out = bytearray(count)
+    with _lent(image) as lent, _lent(out, written=True) as room:
+        _take(_payload_read(*lent, _blocks(block_size), slot, place, *room))
+    return bytes(out)
+
+
+def _rows(fill):
+    """The entries that a call lists into new rows for all slots: it is lent a pointer and a length."""
+    rows = (_Row * 128)()
+    n = _take(fill(ctypes.byref(rows), ctypes.sizeof(rows))).count
+    return [Entry(row.slot, _read(row.entry)) for row in rows[:n]]
+
+
 def listing(image, block_size):
     """The used slots, ascending, each with its record. The check's numbers."""
-    rows = (_Row * 128)()
     with _lent(image) as lent:
-        n = _take(_list(*lent, _blocks(block_size), ctypes.byref(rows), ctypes.sizeof(rows))).count
-    return [Entry(row.slot, _read(row.entry)) for row in rows[:n]]
+        return _rows(lambda *out: _list(*lent, _blocks(block_size), *out))
+
+
+def _runs(fill):
+    """The runs that a call finds, as ranges: it is lent two rows."""
+    starts, lengths = (ctypes.c_uint64 * RUNS)(), (ctypes.c_uint64 * RUNS)()
+    n = _take(fill(ctypes.byref(starts), RUNS, ctypes.byref(lengths), RUNS)).count
+    return [range(first, first + blocks) for first, blocks in zip(starts[:n], lengths[:n])]
 
 
 def free_runs(image, block_size):
     """The free ground: the maximal runs of usable blocks that no used slot has, ascending, each as a range of blocks. The check's numbers."""
-    starts, lengths = (ctypes.c_uint64 * RUNS)(), (ctypes.c_uint64 * RUNS)()
     with _lent(image) as lent:
-        n = _take(_free_runs(*lent, _blocks(block_size), ctypes.byref(starts), RUNS, ctypes.byref(lengths), RUNS)).count
-    return [range(first, first + blocks) for first, blocks in zip(starts[:n], lengths[:n])]
+        return _runs(lambda *out: _free_runs(*lent, _blocks(block_size), *out))
 
 
 def slot_map(image, block_size):
@@ -664,10 +750,8 @@ def reader_copy(image, block_size):
 
 def reader_listing(image, block_size):
     """The used slots of that table, ascending, each with its record. 1, 8, 10, 27."""
-    rows = (_Row * 128)()
     with _lent(image) as lent:
-        n = _take(_reader_list(*lent, _blocks(block_size), ctypes.byref(rows), ctypes.sizeof(rows))).count
-    return [Entry(row.slot, _read(row.entry)) for row in rows[:n]]
+        return _rows(lambda *out: _reader_list(*lent, _blocks(block_size), *out))
 
 
 def _table(calls, table):
@@ -740,12 +824,17 @@ def _opened(path):
         os.close(file)
 
 
+def _write(file, data, place):
+    """Writes all bytes of a buffer from a place on. A call that a signal interrupts goes on."""
+    view = memoryview(data)
+    view, done = view.cast("B") if view.nbytes else view, 0
+    while done < view.nbytes:
+        done += os.pwrite(file, view[done:], place + done)
+
+
 def _store(file, image, place, length):
     """Has the device store one block, and waits until it has."""
-    block = bytes(image[place:place + length])
-    while block:
-        done = os.pwrite(file, block, place)
-        block, place = block[done:], place + done
+    _write(file, bytes(image[place:place + length]), place)
     os.fsync(file)
 
 
@@ -776,6 +865,265 @@ def repair_staged(path, block_size, stop_after=None):
     """A repair, likewise: 34 stages with blocks of 512 bytes, 6 with 4,096. Wherever it is cut, the reader shows what it showed. Repair only what check refuses: of a whole card a
     repair first destroys the back header. 1, 8, 10, 27."""
     _staged(path, block_size, stop_after, lambda image: start_repair(image, block_size), next_repair)
+
+
+class Card:
+    """A card in a file or a device of any size, which Card.open opens; with a `with` it is closed again.
+
+    Two windows of it are in memory, some 33 KiB: the head, which is block 0 and the front table, and the tail, which is the back table. Every call answers as the function of its name
+    does on an image of the whole card. Of the file nothing is read or written but blocks of these windows, each read once, and the payload's own bytes. lay, put and clear write the blocks that
+    changed and no others, and then wait until the device has stored them; put_staged, clear_staged and repair_staged do so after each stage's one block. write_payload leaves that to sync.
+
+    Refused is a verdict on the card, and then nothing was written. OSError is none: reading, writing or storing failed. If that was a block of a table, every call is OSError until
+    reload has read the tables again; so it is if the file has become longer or shorter, which is looked at before each write. Nobody else may write the card meanwhile.
+
+    block_size and blocks are the card's, writable is whether it can be written."""
+
+    def __init__(self, file, block_size, writable, path):
+        self._file, self._path, self.block_size, self.writable = file, path, block_size, writable
+        self.reload()
+
+    @classmethod
+    def open(cls, path, block_size=None, writable=False):
+        """Opens a card's file or device to be read, or with writable=True to be written too. No check is made, since a card that was pulled is opened too, and one that is
+        still to be laid; where the block size is None, it is the one by which the reader finds a table, and a file that has tables by both is a ValueError. 1, 8, 10; 27 where there is
+        no block size to be found; and OSError."""
+        file = os.open(path, (os.O_RDWR if writable else os.O_RDONLY) | os.O_CLOEXEC)
+        try:
+            return cls(file, _blocks(block_size), writable, path) if block_size is not None else cls._found(file, writable, path)
+        except BaseException:
+            os.close(file)
+            raise
+
+    @classmethod
+    def _found(cls, file, writable, path):
+        """The card by the block size that fits."""
+        found, refusals = [], []
+        for block_size in (512, 4096):
+            try:
+                card = cls(file, block_size, writable, path)
+                card.reader_copy()
+                found.append(card)
+            except Refused as refusal:
+                refusals.append(refusal)
+        if not found:
+            raise refusals[0]
+        if len(found) > 1:
+            raise ValueError(f"{path!r} has tables by both block sizes: say which one is meant")
+        return found[0]
+
+    def __enter__(self):
+        self._opened()
+        return self
+
+    def __exit__(self, *_):
+        self.close()
+
+    def close(self):
+        """Closes the file. All that was written is in it."""
+        file, self._file = self._file, None
+        if file is not None:
+            os.close(file)
+
+    def reload(self):
+        """Reads the file's length and both windows again. 1, 8, 10, and OSError; every other call is OSError then."""
+        self._known = False
+        length, b = os.lseek(self._opened(), 0, os.SEEK_END), self.block_size
+        self._length, self.blocks = length, length // b if b else 0
+        nothing = ctypes.addressof(_nothing), 0
+        number = _window_check(*nothing, *nothing, self.blocks, b).number
+        if number != 32:
+            raise Refused(number)
+        self._head, self._tail = self._read(0, 2 * b + 16384), self._read(self.blocks * b - b - 16384, b + 16384)
+        self._known = True
+
+    def lay(self, guid):
+        """Lays an empty card for a disk GUID. If it is cut, the file may be no card."""
+        self._change(lambda *windows: _window_lay(*windows, _Guid.from_buffer_copy(guid.bytes_le)))
+
+    def check(self):
+        """Raises Refused unless this is a whole card. 4, 5, 16, 6 of each table, front or back; 17, the disk GUID or a slot; 16 of the entries, front."""
+        self._ask(_window_check)
+
+    def put(self, slot, record):
+        """Puts a record into a slot of both tables. The check's numbers, then 18, 19, 20, 21, 22, 25, 28."""
+        slot, record = _number(slot, 32, "the slot"), _record(record)
+        self._change(lambda *windows: _window_put(*windows, slot, record))
+
+    def clear(self, slot):
+        """Clears a slot in both tables; the partition's bytes stay. The check's numbers, then 18."""
+        slot = _number(slot, 32, "the slot")
+        self._change(lambda *windows: _window_clear(*windows, slot))
+
+    def get(self, slot):
+        """The record of a slot, or None where it is unused. The check's numbers, then 18."""
+        read = self._ask(_window_slot, _number(slot, 32, "the slot"))
+        return _read(read.record) if read.present else None
+
+    def count(self):
+        """How many slots are used. The check's numbers."""
+        return self._ask(_window_count).count
+
+    def listing(self):
+        """The used slots, ascending, each with its record. The check's numbers."""
+        return _rows(lambda *out: self._ask(_window_list, *out))
+
+    def free_runs(self):
+        """The free ground, ascending, each run as a range of blocks. The check's numbers."""
+        return _runs(lambda *out: self._ask(_window_free_runs, *out))
+
+    def slot_map(self):
+        """The slot map of the card, as it is now. The check's numbers."""
+        made = self._ask(_window_map).map
+        return SlotMap(made.low, made.high)
+
+    def lowest_free(self):
+        """The lowest free slot. The check's numbers, then 33."""
+        return self.slot_map().lowest_free()
+
+    def disk_guid(self):
+        """The card's own GUID, which both tables have. The check's numbers."""
+        self.check()
+        return uuid.UUID(bytes_le=bytes(self._head[self.block_size + 56 : self.block_size + 72]))
+
+    def reader_copy(self):
+        """The table that the reader takes, FRONT or BACK. 27."""
+        return BACK if self._ask(_window_copy).back else FRONT
+
+    def reader_array(self):
+        """The 16,384 bytes of that table's array, as a view of the window that they stand in, to be read. 27."""
+        window, place = (self._tail, 0) if self.reader_copy() == BACK else (self._head, 2 * self.block_size)
+        return memoryview(window).toreadonly()[place : place + 16384]
+
+    def reader_get(self, slot):
+        """The record of a slot of that table, or None where it is unused. 27, 18."""
+        read = self._ask(_window_reader_slot, _number(slot, 32, "the slot"))
+        return _read(read.record) if read.present else None
+
+    def reader_listing(self):
+        """The used slots of that table, ascending, each with its record. 27."""
+        return _rows(lambda *out: self._ask(_window_reader_list, *out))
+
+    def put_staged(self, slot, record, stop_after=None):
+        """A put in four stages of one block each, the device having stored each before the next is made; with stop_after only so many of them, as if the card were pulled there. As put."""
+        slot, record = _number(slot, 32, "the slot"), _record(record)
+        self._staged(stop_after, lambda *windows: _updated(_window_start_put(*windows, slot, record)), self._next_stage)
+
+    def clear_staged(self, slot, stop_after=None):
+        """A clear, likewise. As clear."""
+        slot = _number(slot, 32, "the slot")
+        self._staged(stop_after, lambda *windows: _updated(_window_start_clear(*windows, slot)), self._next_stage)
+
+    def repair_staged(self, stop_after=None):
+        """A repair, likewise: 34 stages with blocks of 512 bytes, 6 with 4,096. Repair only what check refuses. 27."""
+        self._staged(stop_after, lambda *windows: _repaired(_window_start_repair(*windows)), self._next_repair)
+
+    def payload_place(self, slot, place, count):
+        """Where so many bytes at a place of a slot's partition stand in the file. The check's numbers, then 18, 23, 24."""
+        numbers = _number(slot, 32, "the slot"), _number(place, 64, "the place"), _number(count, 64, "the count")
+        return self._ask(_window_place, *numbers).at
+
+    def write_payload(self, slot, place, data):
+        """Writes bytes, any buffer, at a place of a slot's partition, and says how many. The check's numbers, then 18, 23, 24."""
+        file = self._to_write()
+        with _view(data, "the bytes to write") as view:
+            _fits(view, "the bytes to write", False)
+            at = self.payload_place(slot, place, view.nbytes)
+            self._same_length()
+            _write(file, view, at)
+            return view.nbytes
+
+    def read_payload(self, slot, place, count):
+        """So many bytes from a place of a slot's partition on. The check's numbers, then 18, 23, 24."""
+        return bytes(self._read(self.payload_place(slot, place, count), count))
+
+    def sync(self):
+        """Waits until the device has stored all that was written."""
+        os.fsync(self._opened())
+
+    def _failed(self, what):
+        return OSError(errno.EIO, what, self._path)
+
+    def _opened(self):
+        if self._file is None:
+            raise ValueError("the card is closed")
+        return self._file
+
+    def _to_write(self):
+        file = self._opened()
+        if not self.writable:
+            raise io.UnsupportedOperation("the card was opened to be read: writable=True opens it to be written too")
+        return file
+
+    @contextlib.contextmanager
+    def _windows(self):
+        """What a call on windows takes first."""
+        self._opened()
+        if not self._known:
+            raise self._failed("since something failed the tables were not read again")
+        with _lent(self._head) as head, _lent(self._tail) as tail:
+            yield *head, *tail, self.blocks, self.block_size
+
+    def _ask(self, call, *arguments):
+        with self._windows() as windows:
+            return _take(call(*windows, *arguments))
+
+    def _change(self, call):
+        """Makes a change in the windows, and stores the blocks that it changed: of each table the array before its header, and the back table first, as the stages do."""
+        self._to_write()
+        before = bytes(self._head), bytes(self._tail)
+        with self._windows() as windows:
+            _take(call(*windows))
+        b, tail = self.block_size, self.blocks * self.block_size - len(self._tail)
+        head = [place for place in range(0, len(self._head), b) if self._head[place : place + b] != before[0][place : place + b]]
+        back = [tail + place for place in range(0, len(self._tail), b) if self._tail[place : place + b] != before[1][place : place + b]]
+        self._store(*back, *reversed(head))
+
+    def _staged(self, stop_after, start, go_on):
+        self._to_write()
+        state = None
+        for stage in itertools.count(1):
+            if state and stage > state.stages() or stop_after is not None and stage > stop_after:
+                return
+            with self._windows() as windows:
+                state = start(*windows) if stage == 1 else go_on(windows, stage, state)
+            self._store(state.block(stage) * self.block_size)
+
+    @staticmethod
+    def _next_stage(windows, stage, state):
+        return _updated(_window_next_stage(*windows, stage, _update(state)))
+
+    @staticmethod
+    def _next_repair(windows, stage, state):
+        return _repaired(_window_next_repair(*windows, stage, _repair(state)))
+
+    def _store(self, *places):
+        """Writes the blocks at these places as the windows have them, and waits until the device has them. Before that has come to its end, the windows are not what the file has."""
+        self._known = False
+        self._same_length()
+        tail = self.blocks * self.block_size - len(self._tail)
+        for place in places:
+            window, inside = (self._head, place) if place < tail else (self._tail, place - tail)
+            _write(self._file, window[inside : inside + self.block_size], place)
+        os.fsync(self._file)
+        self._known = True
+
+    def _same_length(self):
+        """The tail stands at the card's end only as long as the file's length is what it was."""
+        length = os.lseek(self._file, 0, os.SEEK_END)
+        if length != self._length:
+            self._known = False
+            raise self._failed(f"the file has {length} bytes, and had {self._length} when its tables were read")
+
+    def _read(self, place, count):
+        """So many bytes of the file. A call that a signal interrupts goes on, and a file that ends too early is an error."""
+        data = bytearray()
+        while len(data) < count:
+            piece = os.pread(self._opened(), count - len(data), place + len(data))
+            if not piece:
+                raise self._failed(f"the file ends before byte {place + count}: it was longer")
+            data += piece
+        return data
 
 
 def crc32_next(running, data):

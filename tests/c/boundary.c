@@ -224,6 +224,8 @@ static void all_at(uint32_t number, uint32_t place, uint32_t differs) {
     AT(card_put(img, LEN, BLOCK, 1, some(34, 34)), place, differs);
     AT(card_clear(img, LEN, BLOCK, 1), place, differs);
     AT(card_write_payload(img, LEN, BLOCK, 1, 0, rows, 1), place, differs);
+    AT(card_payload_place(img, LEN, BLOCK, 1, 0, 1), place, differs);
+    AT(card_read_payload(img, LEN, BLOCK, 1, 0, rows, 1), place, differs);
     AT(card_count_used(img, LEN, BLOCK), place, differs);
     AT(card_next_used(img, LEN, BLOCK, 0), place, differs);
     AT(card_read_slot(img, LEN, BLOCK, 1), place, differs);
@@ -631,6 +633,55 @@ static void repairs(void) {
     memcpy(img, whole, LEN);
 }
 
+/* Where the bytes of slot 7 stand, whose blocks are 35 and 36, and of slots that have none. */
+static void payload_places(void) {
+    card_spot at = card_payload_place(img, LEN, BLOCK, 7, 1020, 4);
+    SAME(at.number, 0);
+    SAME(at.at, 35 * BLOCK + 1020);
+    AT(at, CARD_PLACE_NONE, 0);
+    SAME(card_payload_place(img, LEN, BLOCK, 7, 0, 1024).at, 35 * BLOCK);
+    SAME(card_payload_place(img, LEN, BLOCK, 7, 1024, 0).at, 37 * BLOCK);
+    at = card_payload_place(img, LEN, BLOCK, 7, 1021, 4);
+    SAME(at.number, CARD_PAST_PARTITION);
+    SAME(at.at, 0);
+    AT(at, CARD_PLACE_NONE, 0);
+    SAME(card_payload_place(img, LEN, BLOCK, 7, 1025, 0).number, CARD_PAST_PARTITION);
+    SAME(card_payload_place(img, LEN, BLOCK, 7, SIZE_MAX, 2).number, CARD_PAST_PARTITION);
+    SAME(card_payload_place(img, LEN, BLOCK, 7, 2, SIZE_MAX).number, CARD_PAST_PARTITION);
+    SAME(card_payload_place(img, LEN, BLOCK, 1, 0, 0).number, CARD_EMPTY_SLOT);
+    SAME(card_payload_place(img, LEN, BLOCK, 129, 0, 0).number, CARD_BAD_SLOT);
+    SAME(card_payload_place(img, LEN, 1024, 129, 0, 0).number, CARD_BAD_BLOCK_SIZE);
+    SAME(card_payload_place(img, 1000, BLOCK, 7, 0, 0).number, CARD_TO_SMALL_FOR_BACKUP);
+    SAME(card_payload_place(img, 67 * BLOCK, BLOCK, 7, 0, 0).number, CARD_BACKUP_LBA_TO_EARLY);
+    KEPT();
+}
+
+/* The bytes that were written are read again, "fire" at the end of slot 7; a refused read leaves what was lent. */
+static void payload_reads(void) {
+    uint8_t out[8];
+    memset(out, 0x77, sizeof out);
+    card_stored s = card_read_payload(img, LEN, BLOCK, 7, 1021, out, 4);
+    SAME(s.number, CARD_PAST_PARTITION);
+    SAME(s.bytes, 0);
+    SAME(card_read_payload(img, LEN, BLOCK, 7, SIZE_MAX, out, 4).number, CARD_PAST_PARTITION);
+    SAME(card_read_payload(img, LEN, BLOCK, 1, 0, out, 0).number, CARD_EMPTY_SLOT);
+    SAME(card_read_payload(img, LEN, BLOCK, 0, 0, out, 4).number, CARD_BAD_SLOT);
+    SAME(card_read_payload(img, LEN, 1, 7, 0, out, 4).number, CARD_BAD_BLOCK_SIZE);
+    SAME(card_read_payload(img, 1000, BLOCK, 7, 0, out, 4).number, CARD_TO_SMALL_FOR_BACKUP);
+    SAME(card_read_payload(img, 67 * BLOCK, BLOCK, 7, 0, out, 4).number, CARD_BACKUP_LBA_TO_EARLY);
+    SAME(le(out, 8), 0x7777777777777777);
+    s = card_read_payload(img, LEN, BLOCK, 7, 1018, out, 6);
+    SAME(s.number, 0);
+    SAME(s.bytes, 6);
+    AT(s, CARD_PLACE_NONE, 0);
+    BYTES(out, img + 35 * BLOCK + 1018, 6);
+    BYTES(out + 2, "fire\x77\x77", 6);
+    s = card_read_payload(img, LEN, BLOCK, 7, 1024, out, 0);
+    SAME(s.number, 0);
+    SAME(s.bytes, 0);
+    KEPT();
+}
+
 static void payloads(void) {
     memcpy(before, img, LEN);
     card_stored s = card_write_payload(img, LEN, BLOCK, 7, 1021, (const uint8_t *)"fire", 4);
@@ -639,11 +690,13 @@ static void payloads(void) {
     SAME(card_write_payload(img, LEN, BLOCK, 7, SIZE_MAX, (const uint8_t *)"fire", 4).number, CARD_PAST_PARTITION);
     SAME(card_write_payload(img, LEN, BLOCK, 1, 0, (const uint8_t *)"fire", 4).number, CARD_EMPTY_SLOT);
     KEPT();
+    payload_places();
     s = card_write_payload(img, LEN, BLOCK, 7, 1020, (const uint8_t *)"fire", 4);
     SAME(s.number, 0);
     SAME(s.bytes, 4);
     memcpy(before + 35 * BLOCK + 1020, "fire", 4);
     KEPT();
+    payload_reads();
     SAME(card_clear(img, LEN, BLOCK, 129).number, CARD_BAD_SLOT);
     SAME(card_clear(img, LEN, BLOCK, 128).number, 0);
     ZEROS(img + 2 * BLOCK + 127 * 128, 128);
@@ -1146,6 +1199,447 @@ static void by_uefi(void) {
     other_refused(card, sizeof card, BLOCK, CARD_WRONG_PLACE, CARD_WRONG_PLACE);
 }
 
+/* ---- a card by two windows. Beside them stands, where there is one, the whole card, to which the same is done by the calls on an image. */
+
+#define WIDEST 4096
+static uint64_t size, many;
+static size_t head_len, tail_len;
+static uint8_t head[2 * WIDEST + 16384], tail[WIDEST + 16384], old_head[sizeof head], old_tail[sizeof tail];
+static uint8_t whole[30 * WIDEST], old_whole[sizeof whole];
+#define WINDOWS head, head_len, tail, tail_len, many, size
+#define WHOLE whole, many * size, size
+
+/* Blocks of b bytes, and n of them. */
+static void windows_of(uint64_t b, uint64_t n) {
+    size = b;
+    many = n;
+    head_len = b + b + 16384;
+    tail_len = b + 16384;
+}
+
+/* The windows as the whole card has them. */
+static void cut_out(void) {
+    memcpy(head, whole, head_len);
+    memcpy(tail, whole + many * size - tail_len, tail_len);
+}
+
+static void keep_windows(void) {
+    memcpy(old_head, head, sizeof head);
+    memcpy(old_tail, tail, sizeof tail);
+}
+#define WINDOWS_KEPT(line) do { bytes_at(line, "head", head, old_head, sizeof head); bytes_at(line, "tail", tail, old_tail, sizeof tail); } while (0)
+#define AS_WHOLE(line) do { bytes_at(line, "head", head, whole, head_len); bytes_at(line, "tail", tail, whole + many * size - tail_len, tail_len); } while (0)
+
+/* Two answers have the same number and place, and the same in one more field. */
+#define TOLD(line, x, y, field) do { \
+    same_at(line, #x ".number", (x).number, (y).number); \
+    same_at(line, #x ".place", (x).place, (y).place); \
+    same_at(line, #x ".differs", (x).differs, (y).differs); \
+    same_at(line, #x "." #field, (x).field, (y).field); \
+} while (0)
+#define PLAIN(line, x, y, field) do { \
+    same_at(line, #x ".number", (x).number, (y).number); \
+    same_at(line, #x "." #field, (x).field, (y).field); \
+} while (0)
+
+static void lists_alike(int line) {
+    static const size_t lens[] = {0, 135, 136, 271, 272, 3 * 136};
+    uint8_t rows[3 * 136], same[sizeof rows];
+    for (size_t i = 0; i < sizeof lens / sizeof *lens; i++) {
+        memset(rows, 0x5A, sizeof rows);
+        memset(same, 0x5A, sizeof same);
+        card_count n = card_window_list(WINDOWS, rows, lens[i]), m = card_list(WHOLE, same, lens[i]);
+        TOLD(line, n, m, count);
+        bytes_at(line, "rows", rows, same, sizeof rows);
+        gpt_count r = card_window_reader_list(WINDOWS, rows, lens[i]), q = card_reader_list(WHOLE, same, lens[i]);
+        PLAIN(line, r, q, count);
+        bytes_at(line, "rows", rows, same, sizeof rows);
+    }
+}
+
+static void runs_alike(int line) {
+    for (size_t len = 0; len <= 3; len++) {
+        uint64_t starts[3] = {1, 2, 3}, lengths[3] = {4, 5, 6}, s[3] = {1, 2, 3}, l[3] = {4, 5, 6};
+        card_count n = card_window_free_runs(WINDOWS, starts, len, lengths, 3), m = card_free_runs(WHOLE, s, len, l, 3);
+        TOLD(line, n, m, count);
+        bytes_at(line, "starts", starts, s, sizeof s);
+        bytes_at(line, "lengths", lengths, l, sizeof l);
+        n = card_window_free_runs(WINDOWS, starts, 3, lengths, len), m = card_free_runs(WHOLE, s, 3, l, len);
+        TOLD(line, n, m, count);
+        bytes_at(line, "starts", starts, s, sizeof s);
+        bytes_at(line, "lengths", lengths, l, sizeof l);
+    }
+}
+
+static void slots_alike(int line, uint32_t slot) {
+    card_next next = card_window_next_used(WINDOWS, slot), after = card_next_used(WHOLE, slot);
+    TOLD(line, next, after, slot);
+    card_slot_read r = card_window_read_slot(WINDOWS, slot), s = card_read_slot(WHOLE, slot);
+    TOLD(line, r, s, present);
+    record_at(line, "partition", r.partition, s.partition);
+    gpt_next n = card_window_reader_next(WINDOWS, slot), m = card_reader_next(WHOLE, slot);
+    PLAIN(line, n, m, slot);
+    gpt_slot_read p = card_window_reader_slot(WINDOWS, slot), q = card_reader_slot(WHOLE, slot);
+    PLAIN(line, p, q, present);
+    record_at(line, "partition", p.partition, q.partition);
+    for (uint64_t place = 0; place <= 2 * size + 1; place += size - 1) {
+        card_spot at = card_window_payload_place(WINDOWS, slot, place, 3), to = card_payload_place(WHOLE, slot, place, 3);
+        TOLD(line, at, to, at);
+    }
+}
+
+/* Every call that reads, on the windows and on the whole card: the same answers and rows, and no byte of the windows changes. */
+static void reads_alike(int line) {
+    static const uint32_t slots[] = {0, 1, 6, 7, 8, 127, 128, 129, UINT32_MAX};
+    AS_WHOLE(line);
+    keep_windows();
+    card_answer a = card_window_check(WINDOWS), c = card_check(WHOLE);
+    TOLD(line, a, c, slot);
+    card_count n = card_window_count_used(WINDOWS), m = card_count_used(WHOLE);
+    TOLD(line, n, m, count);
+    for (size_t i = 0; i < sizeof slots / sizeof *slots; i++) slots_alike(line, slots[i]);
+    for (uint32_t k = 0; k <= 3; k++) {
+        card_used_read u = card_window_nth_used(WINDOWS, k), v = card_nth_used(WHOLE, k);
+        TOLD(line, u, v, found);
+        same_at(line, "slot", u.slot, v.slot);
+        record_at(line, "partition", u.partition, v.partition);
+    }
+    card_map_made made = card_window_map_make(WINDOWS), map = card_map_make(WHOLE);
+    TOLD(line, made, map, map.low);
+    same_at(line, "map.high", made.map.high, map.map.high);
+    card_copy copy = card_window_reader_copy(WINDOWS), side = card_reader_copy(WHOLE);
+    PLAIN(line, copy, side, back);
+    gpt_count r = card_window_reader_count(WINDOWS), q = card_reader_count(WHOLE);
+    PLAIN(line, r, q, count);
+    lists_alike(line);
+    runs_alike(line);
+    WINDOWS_KEPT(line);
+}
+
+static void update_alike(int line, card_update u, card_update v) {
+    same_at(line, "next", u.next, v.next);
+    same_at(line, "slot", u.slot, v.slot);
+    same_at(line, "b", u.b, v.b);
+    same_at(line, "len", u.len, v.len);
+    same_at(line, "parts", u.parts, v.parts);
+    bytes_at(line, "entry", u.entry, v.entry, 128);
+    bytes_at(line, "guid", &u.guid, &v.guid, 16);
+}
+
+/* A put, and a clear where p is NULL: at once and in four stages. Refused or not, the windows end as the whole card does, after each stage. */
+static void change_alike(int line, uint32_t slot, const gpt_partition *p) {
+    memcpy(old_whole, whole, sizeof whole);
+    card_answer a = p ? card_window_put(WINDOWS, slot, *p) : card_window_clear(WINDOWS, slot);
+    card_answer c = p ? card_put(WHOLE, slot, *p) : card_clear(WHOLE, slot);
+    TOLD(line, a, c, slot);
+    AS_WHOLE(line);
+    memcpy(whole, old_whole, sizeof whole);
+    cut_out();
+    card_update_step s = p ? card_window_start_put(WINDOWS, slot, *p) : card_window_start_clear(WINDOWS, slot);
+    card_update_step t = p ? card_start_put(WHOLE, slot, *p) : card_start_clear(WHOLE, slot);
+    for (uint32_t stage = 2; stage <= 6; stage++) {
+        TOLD(line, s, t, slot);
+        update_alike(line, s.state, t.state);
+        AS_WHOLE(line);
+        s = card_window_next_stage(WINDOWS, stage, s.state);
+        t = card_next_stage(WHOLE, stage, t.state);
+    }
+    same_at(line, "number", s.number, CARD_WRONG_STAGE);
+}
+
+/* A repair by all its stages, and two more, which are refused. */
+static void repair_alike(int line) {
+    const uint32_t last = (uint32_t)(16384 / size) + 2;
+    card_repair_step s = card_window_start_repair(WINDOWS), t = card_start_repair(WHOLE);
+    for (uint32_t stage = 2; stage <= last + 2; stage++) {
+        TOLD(line, s, t, slot);
+        same_at(line, "next", s.state.next, t.state.next);
+        same_at(line, "back", s.state.back, t.state.back);
+        same_at(line, "b", s.state.b, t.state.b);
+        same_at(line, "len", s.state.len, t.state.len);
+        same_at(line, "parts", s.state.parts, t.state.parts);
+        bytes_at(line, "guid", &s.state.guid, &t.state.guid, 16);
+        AS_WHOLE(line);
+        s = card_window_next_repair(WINDOWS, stage, s.state);
+        t = card_next_repair(WHOLE, stage, t.state);
+    }
+    same_at(line, "number", s.number, CARD_WRONG_STAGE);
+    AS_WHOLE(line);
+}
+
+/* A state that every later stage takes on these windows. */
+static card_update some_update(void) {
+    return (card_update){.next = 3, .slot = 128, .b = size, .len = many * size, .guid = disk};
+}
+static card_repair some_repair(void) {
+    return (card_repair){.next = 2, .b = size, .len = many * size, .guid = disk};
+}
+
+#define THESE head, h, tail, t, n, b
+
+/* A call that is refused, and so may be made again: the number, and zero beside it. */
+#define SHUT(call, field) do { same_at(line, #call, (call).number, number); same_at(line, #call "." #field, (call).field, 0); } while (0)
+#define SHUT_AT(call, field) do { SHUT(call, field); same_at(line, #call ".place", (call).place | (call).differs, 0); } while (0)
+
+/* Every call but the later stages is refused by one number, the rest of each answer is zero, and no lent byte changes. */
+static void closed_at(int line, size_t h, size_t t, uint64_t n, uint64_t b, uint32_t number) {
+    uint8_t rows[136];
+    uint64_t starts[1] = {1}, lengths[1] = {2};
+    gpt_partition p = some(0, MOST);
+    keep_windows();
+    memset(rows, 0x77, sizeof rows);
+    SHUT_AT(card_window_lay(THESE, disk), slot);
+    SHUT_AT(card_window_check(THESE), slot);
+    SHUT_AT(card_window_put(THESE, 0, p), slot);
+    SHUT_AT(card_window_clear(THESE, 0), slot);
+    SHUT_AT(card_window_count_used(THESE), count);
+    SHUT_AT(card_window_next_used(THESE, 0), slot);
+    SHUT_AT(card_window_read_slot(THESE, 0), present);
+    SHUT_AT(card_window_nth_used(THESE, 0), found);
+    SHUT_AT(card_window_list(THESE, rows, 0), count);
+    SHUT_AT(card_window_list(THESE, rows, sizeof rows), count);
+    SHUT_AT(card_window_free_runs(THESE, starts, 0, lengths, 0), count);
+    SHUT_AT(card_window_free_runs(THESE, starts, 1, lengths, 1), count);
+    SHUT_AT(card_window_map_make(THESE), map.low);
+    SHUT_AT(card_window_payload_place(THESE, 0, SIZE_MAX, SIZE_MAX), at);
+    SHUT(card_window_reader_copy(THESE), back);
+    SHUT(card_window_reader_count(THESE), count);
+    SHUT(card_window_reader_next(THESE, 0), slot);
+    SHUT(card_window_reader_slot(THESE, 0), present);
+    SHUT(card_window_reader_list(THESE, rows, 0), count);
+    SHUT(card_window_reader_list(THESE, rows, sizeof rows), count);
+    SHUT_AT(card_window_start_put(THESE, 0, p), state.len);
+    SHUT_AT(card_window_start_clear(THESE, 0), state.len);
+    SHUT_AT(card_window_start_repair(THESE), state.len);
+    for (size_t i = 0; i < sizeof rows; i++) same_at(line, "rows", rows[i], 0x77);
+    same_at(line, "starts", starts[0], 1);
+    same_at(line, "lengths", lengths[0], 2);
+    WINDOWS_KEPT(line);
+}
+#define CLOSED(h, t, n, b, number) closed_at(__LINE__, h, t, n, b, number)
+
+/* A later stage of both kinds is refused by one number. */
+static void halted_at(int line, size_t h, size_t t, uint64_t n, uint64_t b, uint32_t number) {
+    keep_windows();
+    SHUT_AT(card_window_next_stage(THESE, 3, some_update()), state.len);
+    SHUT_AT(card_window_next_repair(THESE, 2, some_repair()), state.len);
+    WINDOWS_KEPT(line);
+}
+#define HALTED(h, t, n, b, number) halted_at(__LINE__, h, t, n, b, number)
+
+/* The windows' own numbers, in their order: 1 before 3, 3 before 8 and 10, these before 32, and 32 before all that the windows hold. In a later stage 1, 26, 32. */
+static void own_numbers(void) {
+    const uint64_t over = (MOST / size) + 1, least = 2 * (16384 / size) + 4;
+    CLOSED(0, 0, MOST, 1024, CARD_BAD_BLOCK_SIZE);
+    CLOSED(head_len, tail_len, many, 0, CARD_BAD_BLOCK_SIZE);
+    CLOSED(0, 0, MOST, size, CARD_OVERFLOW);
+    CLOSED(head_len, tail_len, over, size, CARD_OVERFLOW);
+    CLOSED(0, 0, 0, size, CARD_TO_SMALL_FOR_BACKUP);
+    CLOSED(head_len, tail_len, 2, size, CARD_TO_SMALL_FOR_BACKUP);
+    CLOSED(head_len, 0, 3, size, CARD_BACKUP_LBA_TO_EARLY);
+    CLOSED(head_len, tail_len, least - 1, size, CARD_BACKUP_LBA_TO_EARLY);
+    CLOSED(head_len - 1, tail_len, least, size, CARD_WINDOW_LENGTH);
+    CLOSED(head_len, tail_len - 1, many, size, CARD_WINDOW_LENGTH);
+    CLOSED(head_len, tail_len + 1, many, size, CARD_WINDOW_LENGTH);
+    CLOSED(head_len - size, tail_len + size, many, size, CARD_WINDOW_LENGTH);
+    CLOSED(0, 0, over - 1, size, CARD_WINDOW_LENGTH);
+    HALTED(0, 0, over, 1024, CARD_BAD_BLOCK_SIZE);
+    HALTED(0, 0, over, size, CARD_WRONG_STAGE);
+    HALTED(head_len, tail_len, over + many, size, CARD_WRONG_STAGE);
+    HALTED(head_len, 0, many + 1, size, CARD_WRONG_STAGE);
+    HALTED(head_len, tail_len, many, 4608 - size, CARD_WRONG_STAGE);
+    HALTED(head_len - 1, tail_len, many, size, CARD_WINDOW_LENGTH);
+    HALTED(head_len, tail_len + 1, many, size, CARD_WINDOW_LENGTH);
+    HALTED(0, 0, many, size, CARD_WINDOW_LENGTH);
+}
+
+/* The reader and the repair where neither table can be read: 27. The card check names the front table. */
+static void none_good(void) {
+    uint8_t rows[136];
+    head[size] ^= 1;
+    tail[tail_len - size] ^= 1;
+    keep_windows();
+    SAME(card_window_reader_copy(WINDOWS).number, CARD_NO_GOOD_COPY);
+    SAME(card_window_reader_count(WINDOWS).number, CARD_NO_GOOD_COPY);
+    SAME(card_window_reader_next(WINDOWS, 0).number, CARD_NO_GOOD_COPY);
+    SAME(card_window_reader_slot(WINDOWS, 0).number, CARD_NO_GOOD_COPY);
+    SAME(card_window_reader_list(WINDOWS, rows, sizeof rows).number, CARD_NO_GOOD_COPY);
+    SAME(card_window_start_repair(WINDOWS).number, CARD_NO_GOOD_COPY);
+    SAME(card_window_check(WINDOWS).number, CARD_INVALID_GPT_SIGNATURE);
+    AT(card_window_check(WINDOWS), CARD_PLACE_FRONT, 0);
+    WINDOWS_KEPT(__LINE__);
+    head[size] ^= 1;
+    tail[tail_len - size] ^= 1;
+}
+
+/* The whole card with a byte changed in block k, at byte i of it, and both headers summed again by the ported calls if that is asked for: what the check
+   says of its windows, and every call on them as on the image. */
+static void broken_alike(int line, uint64_t k, size_t i, bool summed, uint32_t number, uint32_t place, uint32_t differs) {
+    static uint8_t sound[sizeof whole];
+    const gpt_partition p = some(many / 2, many / 2);
+    gpt_header front = gpt_read_primary_header(WHOLE).header, back = gpt_read_backup_header(WHOLE).header;
+    memcpy(sound, whole, sizeof whole);
+    whole[k * size + i] ^= 1;
+    if (summed) {
+        same_at(line, "number", gpt_write_primary(whole, many * size, front, size).number, 0);
+        same_at(line, "number", gpt_write_backup(whole, many * size, back, size).number, 0);
+    }
+    cut_out();
+    card_answer a = card_window_check(WINDOWS);
+    same_at(line, "number", a.number, number);
+    same_at(line, "place", a.place, place);
+    same_at(line, "differs", a.differs, differs);
+    reads_alike(line);
+    change_alike(line, 9, &p);
+    change_alike(line, 9, NULL);
+    repair_alike(line);
+    memcpy(whole, sound, sizeof whole);
+    cut_out();
+}
+#define BROKEN(k, i, summed, number, place, differs) broken_alike(__LINE__, k, i, summed, number, place, differs)
+
+/* A small card of n blocks of b bytes, its middle full of other bytes: each call on its windows does what the call on the image does. */
+static void windows_beside(uint64_t b, uint64_t n) {
+    windows_of(b, n);
+    const uint64_t a = 16384 / b;
+    const gpt_partition p = some(a + 3, a + 3), q = some(n - a - 3, n - a - 3), over = some(a + 3, n), low = some(a + 1, a + 3), none = {0}, back = some(a + 4, a + 3);
+    gpt_partition twin = some(a + 2, a + 2), flag = twin;
+    twin.part_guid = p.part_guid;
+    flag.flags.reserved = 1;
+    memset(whole, 0xC3, sizeof whole);
+    cut_out();
+    reads_alike(__LINE__);
+    SAME(card_window_check(WINDOWS).number, CARD_INVALID_GPT_SIGNATURE);
+    SAME(card_window_lay(WINDOWS, disk).number, 0);
+    SAME(card_lay(WHOLE, disk).number, 0);
+    SAME(whole[(a + 2) * b], 0xC3);
+    SAME(card_window_check(WINDOWS).number, 0);
+    reads_alike(__LINE__);
+    change_alike(__LINE__, 7, &p);
+    change_alike(__LINE__, 128, &q);
+    reads_alike(__LINE__);
+    SAME(card_window_count_used(WINDOWS).count, 2);
+    SAME(card_window_read_slot(WINDOWS, 129).number, CARD_BAD_SLOT);
+    SAME(card_window_reader_slot(WINDOWS, 0).number, CARD_BAD_SLOT);
+    SAME(card_window_payload_place(WINDOWS, 0, 0, 0).number, CARD_BAD_SLOT);
+    SAME(card_window_payload_place(WINDOWS, 8, 0, 0).number, CARD_EMPTY_SLOT);
+    SAME(card_window_payload_place(WINDOWS, 7, b - 2, 3).number, CARD_PAST_PARTITION);
+    SAME(card_window_payload_place(WINDOWS, 7, b - 3, 3).at, (a + 3) * b + b - 3);
+    const struct {
+        const gpt_partition *record;
+        uint32_t slot, number, names;
+    } refused[] = {
+        {&p, 129, CARD_BAD_SLOT, 0},        {&none, 1, CARD_NIL_TYPE, 0}, {&back, 1, CARD_BAD_RANGE, 0},    {&over, 1, CARD_OUTSIDE_USABLE, 0},
+        {&low, 1, CARD_OUTSIDE_USABLE, 0},  {&p, 1, CARD_OVERLAP, 7},     {&q, 7, CARD_OVERLAP, 128},       {&twin, 1, CARD_TWIN_GUID, 7},
+        {&flag, 1, CARD_RESERVED_FLAG, 0},
+    };
+    for (size_t i = 0; i < sizeof refused / sizeof *refused; i++) {
+        card_answer r = card_window_put(WINDOWS, refused[i].slot, *refused[i].record);
+        SAME(r.number, refused[i].number);
+        SAME(r.slot, refused[i].names);
+        change_alike(__LINE__, refused[i].slot, refused[i].record);
+    }
+    change_alike(__LINE__, 0, NULL);
+    SAME(card_window_clear(WINDOWS, 129).number, CARD_BAD_SLOT);
+    none_good();
+    own_numbers();
+    AS_WHOLE(__LINE__);
+    BROKEN(0, 0, false, 0, CARD_PLACE_NONE, 0);
+    BROKEN(1, 0, false, CARD_INVALID_GPT_SIGNATURE, CARD_PLACE_FRONT, 0);
+    BROKEN(1, 91, false, CARD_INVALID_CRC32_CHECKSUM, CARD_PLACE_FRONT, 0);
+    BROKEN(1, b - 1, false, 0, CARD_PLACE_NONE, 0);
+    BROKEN(2, 3 * 128, false, CARD_PARTS_CRC, CARD_PLACE_FRONT, 0);
+    BROKEN(n - 1 - a, 3 * 128, false, CARD_PARTS_CRC, CARD_PLACE_BACK, 0);
+    BROKEN(n - 1, 56, false, CARD_INVALID_CRC32_CHECKSUM, CARD_PLACE_BACK, 0);
+    BROKEN(n - 1, 3, false, CARD_INVALID_GPT_SIGNATURE, CARD_PLACE_BACK, 0);
+    BROKEN(n - 1 - a, 3 * 128, true, CARD_DISAGREE, CARD_PLACE_SLOT, 4);
+    BROKEN(2, 0, true, CARD_DISAGREE, CARD_PLACE_SLOT, 1);
+    memset(tail, 0, tail_len);
+    memset(whole + n * b - tail_len, 0, tail_len);
+    repair_alike(__LINE__);
+    SAME(card_window_check(WINDOWS).number, 0);
+    change_alike(__LINE__, 128, NULL);
+    change_alike(__LINE__, 7, NULL);
+    reads_alike(__LINE__);
+}
+
+/* A card of n blocks, whose middle is nowhere: laid, changed by put and by stages, listed, read and repaired by its windows alone. */
+static void windows_alone(uint64_t b, uint64_t n) {
+    windows_of(b, n);
+    const uint64_t a = 16384 / b, middle = n / 2, last = n - a - 2;
+    const gpt_partition p = some(middle, middle + 1), q = some(a + 2, a + 2);
+    uint64_t starts[3], lengths[3];
+    card_row rows[2];
+    memset(head, 0xC3, sizeof head);
+    memset(tail, 0xC3, sizeof tail);
+    SAME(card_window_lay(WINDOWS, disk).number, 0);
+    SAME(le(head + 446 + 12, 4), n - 1 < 0xFFFFFFFF ? n - 1 : 0xFFFFFFFF);
+    SAME(le(head + b + 24, 8), 1);
+    SAME(le(head + b + 32, 8), n - 1);
+    SAME(le(head + b + 40, 8), a + 2);
+    SAME(le(head + b + 48, 8), last);
+    SAME(le(tail + 16384 + 24, 8), n - 1);
+    SAME(le(tail + 16384 + 32, 8), 1);
+    SAME(le(tail + 16384 + 72, 8), n - 1 - a);
+    SAME(card_window_put(WINDOWS, 3, some(last, last + 1)).number, CARD_OUTSIDE_USABLE);
+    SAME(card_window_put(WINDOWS, 3, p).number, 0);
+    STANDS(head + 2 * b + 2 * 128, p);
+    STANDS(tail + 2 * 128, p);
+    keep_windows();
+    card_update_step s = card_window_start_put(WINDOWS, 1, q);
+    for (uint32_t stage = 2; stage <= 4; stage++) {
+        SAME(s.number, 0);
+        SAME(s.state.len, n * b);
+        SAME(card_window_reader_count(WINDOWS).count, stage == 4 ? 2 : 1);
+        s = card_window_next_stage(WINDOWS, stage, s.state);
+    }
+    SAME(s.number, 0);
+    SAME(card_window_next_stage(WINDOWS, 5, s.state).number, CARD_WRONG_STAGE);
+    SAME(card_window_list(WINDOWS, (uint8_t *)rows, sizeof rows).count, 2);
+    STANDS(&rows[0].entry, q);
+    STANDS(&rows[1].entry, p);
+    memset(rows, 0, sizeof rows);
+    SAME(card_window_reader_list(WINDOWS, (uint8_t *)rows, sizeof rows).count, 2);
+    SAME(rows[1].slot, 3);
+    SAME(card_window_nth_used(WINDOWS, 1).slot, 3);
+    RECORD(card_window_read_slot(WINDOWS, 3).partition, p);
+    SAME(card_window_map_make(WINDOWS).map.low, 5);
+    SAME(card_window_payload_place(WINDOWS, 3, 2 * b - 1, 1).at, (middle + 2) * b - 1);
+    SAME(card_window_payload_place(WINDOWS, 3, 2 * b, 1).number, CARD_PAST_PARTITION);
+    SAME(card_window_payload_place(WINDOWS, 3, SIZE_MAX, 1).number, CARD_PAST_PARTITION);
+    SAME(card_window_free_runs(WINDOWS, starts, 1, lengths, 3).number, CARD_NO_ROOM);
+    SAME(card_window_free_runs(WINDOWS, starts, 3, lengths, 3).count, 2);
+    SAME(starts[0], a + 3);
+    SAME(lengths[0], middle - a - 3);
+    SAME(starts[1], middle + 2);
+    SAME(lengths[1], last - middle - 1);
+    memcpy(old_head, head, sizeof head);
+    memset(head + b, 0, head_len - b);
+    SAME(card_window_reader_copy(WINDOWS).back, 1);
+    card_repair_step r = card_window_start_repair(WINDOWS);
+    for (uint32_t stage = 2; r.number == 0 && stage <= a + 2; stage++) r = card_window_next_repair(WINDOWS, stage, r.state);
+    SAME(r.number, 0);
+    SAME(r.state.next, a + 3);
+    BYTES(head, old_head, sizeof head);
+    SAME(card_window_start_clear(WINDOWS, 3).state.len, n * b);
+    SAME(card_window_check(WINDOWS).number, CARD_PARTS_CRC);
+    AT(card_window_check(WINDOWS), CARD_PLACE_BACK, 0);
+    SAME(card_window_lay(WINDOWS, disk).number, 0);
+    SAME(card_window_clear(WINDOWS, 3).number, 0);
+    SAME(card_window_lay(head, head_len, tail, tail_len, MOST / b + 1, b, disk).number, CARD_OVERFLOW);
+    SAME(card_window_check(head, head_len, tail, tail_len, n - 1, b).number, CARD_WRONG_LAYOUT);
+}
+
+/* Both block sizes: small cards beside whole images; 8 TiB; and the most blocks whose bytes 64 bits count. */
+static void by_windows(void) {
+    windows_beside(512, 72);
+    windows_beside(4096, 16);
+    windows_alone(512, (uint64_t)1 << 34);
+    windows_alone(4096, (uint64_t)1 << 31);
+    windows_alone(512, MOST / 512);
+    windows_alone(4096, MOST / 4096);
+}
+
 int main(void) {
     cards();
     puts_two();
@@ -1170,6 +1664,7 @@ int main(void) {
     entries();
     arrays();
     by_uefi();
+    by_windows();
     records();
     mbrs();
     if (wrong != 0) {

@@ -18,7 +18,10 @@
 #define PAGE 4096
 #define PAINT 0xA5
 
-static uint8_t img[LEN], spare[LEN], was[128], is[128];
+#define HEAD (2 * BLOCK + 16384)
+#define TAIL (BLOCK + 16384)
+
+static uint8_t img[LEN], spare[LEN], was[128], is[128], head[HEAD], tail[TAIL];
 static card_row rows[128];
 static uint64_t starts[CARD_RUNS], lengths[CARD_RUNS];
 static gpt_partition map = {.part_type_guid = {1, 2, 3, {4}}};
@@ -67,6 +70,36 @@ static void last_repair(void) {
     last.next = 34;
     number = card_next_repair(img, LEN, BLOCK, 34, last).number;
 }
+#define WINDOWS head, HEAD, tail, TAIL, BLOCKS, BLOCK
+static void payload_place(void) { number = card_payload_place(img, LEN, BLOCK, 64, 100, 128).number; }
+static void read_payload(void) { number = card_read_payload(img, LEN, BLOCK, 64, 100, is, 128).number; }
+static void window_lay(void) { number = card_window_lay(WINDOWS, (gpt_guid){5, 6, 7, {8}}).number; }
+static void window_check(void) { number = card_window_check(WINDOWS).number; }
+static void window_put(void) { number = card_window_put(WINDOWS, 64, in_block(162 - 64)).number; }
+static void window_clear(void) { number = card_window_clear(WINDOWS, 64).number; }
+static void window_count_used(void) { number = card_window_count_used(WINDOWS).number; }
+static void window_next_used(void) { number = card_window_next_used(WINDOWS, 64).number; }
+static void window_read_slot(void) { number = card_window_read_slot(WINDOWS, 64).number; }
+static void window_nth_used(void) { number = card_window_nth_used(WINDOWS, 100).number; }
+static void window_list(void) { number = card_window_list(WINDOWS, (uint8_t *)rows, sizeof rows).number; }
+static void window_free_runs(void) { number = card_window_free_runs(WINDOWS, starts, CARD_RUNS, lengths, CARD_RUNS).number; }
+static void window_map_make(void) { number = card_window_map_make(WINDOWS).number; }
+static void window_payload_place(void) { number = card_window_payload_place(WINDOWS, 64, 100, 128).number; }
+static void window_reader_copy(void) { number = card_window_reader_copy(WINDOWS).number; }
+static void window_reader_count(void) { number = card_window_reader_count(WINDOWS).number; }
+static void window_reader_next(void) { number = card_window_reader_next(WINDOWS, 64).number; }
+static void window_reader_slot(void) { number = card_window_reader_slot(WINDOWS, 64).number; }
+static void window_reader_list(void) { number = card_window_reader_list(WINDOWS, (uint8_t *)rows, sizeof rows).number; }
+static void window_start_put(void) { number = card_window_start_put(WINDOWS, 64, in_block(162 - 64)).number; }
+static void window_start_clear(void) { number = card_window_start_clear(WINDOWS, 64).number; }
+static void window_next_stage(void) { number = card_window_next_stage(WINDOWS, 2, update).number; }
+static void window_start_repair(void) { number = card_window_start_repair(WINDOWS).number; }
+static void window_next_repair(void) { number = card_window_next_repair(WINDOWS, 2, repair).number; }
+static void window_last_repair(void) {
+    card_repair last = repair;
+    last.next = 34;
+    number = card_window_next_repair(WINDOWS, 34, last).number;
+}
 static void crc32(void) { number = gpt_crc32(img, LEN) == 0; }
 static void crc32_next(void) { number = gpt_crc32_next(1, img, LEN) == 0; }
 static void read_primary(void) { number = gpt_read_primary_header(img, LEN, BLOCK).number; }
@@ -84,6 +117,8 @@ static void build_new(void) {
 }
 static void from_bytes(void) { number = gpt_entry_from_bytes(was, 128).number; }
 static void to_bytes(void) { gpt_entry_to_bytes(is, 128, map), number = 0; }
+static void flags_of(void) { number = gpt_flags_of(0).required; }
+static void flags_bits(void) { number = gpt_flags_bits(map.flags).number; }
 static void is_used(void) { number = !gpt_is_used(map); }
 static void sectors(void) { number = gpt_sectors_len(in_block(40)).number; }
 static void bytes(void) { number = gpt_bytes_len(in_block(40), BLOCK).number; }
@@ -128,8 +163,12 @@ static const kind kinds[] = {
     KIND(map_make), KIND(map_put), KIND(map_clear), KIND(map_lowest_free), KIND(map_used),
     KIND(reader_copy), KIND(reader_count), KIND(reader_next), KIND(reader_slot), KIND(reader_list),
     KIND(start_put), KIND(start_clear), KIND(next_stage), KIND(start_repair), KIND(next_repair), KIND(last_repair),
+    KIND(payload_place), KIND(read_payload), KIND(window_lay), KIND(window_check), KIND(window_put), KIND(window_clear), KIND(window_count_used),
+    KIND(window_next_used), KIND(window_read_slot), KIND(window_nth_used), KIND(window_list), KIND(window_free_runs), KIND(window_map_make),
+    KIND(window_payload_place), KIND(window_reader_copy), KIND(window_reader_count), KIND(window_reader_next), KIND(window_reader_slot), KIND(window_reader_list),
+    KIND(window_start_put), KIND(window_start_clear), KIND(window_next_stage), KIND(window_start_repair), KIND(window_next_repair), KIND(window_last_repair),
     KIND(crc32), KIND(crc32_next), KIND(read_primary), KIND(read_backup), KIND(find_backup), KIND(parts_sum), KIND(slot_sum), KIND(write_primary),
-    KIND(write_backup), KIND(build), KIND(build_new), KIND(from_bytes), KIND(to_bytes), KIND(is_used), KIND(sectors), KIND(bytes), KIND(bytes_start),
+    KIND(write_backup), KIND(build), KIND(build_new), KIND(from_bytes), KIND(to_bytes), KIND(flags_of), KIND(flags_bits), KIND(is_used), KIND(sectors), KIND(bytes), KIND(bytes_start),
     KIND(write_entry), KIND(zero_entries), KIND(read_partition), KIND(count_partitions), KIND(next_partition), KIND(read_partitions),
     KIND(uefi_primary), KIND(uefi_backup), KIND(uefi_partition), KIND(uefi_count), KIND(uefi_next), KIND(uefi_read),
     KIND(uefi_count_primary), KIND(uefi_count_backup), KIND(uefi_list_primary), KIND(uefi_list_backup),
@@ -144,13 +183,16 @@ static void must(bool fact, const char *what) {
     exit(EXIT_FAILURE);
 }
 
-/* Lays the card again: all 128 slots used, in descending blocks, so that the check compares each with those before it. The states come from a copy of it. */
+/* Lays the card again: all 128 slots used, in descending blocks, so that the check compares each with those before it. The windows and
+   the states come from copies of it. */
 static void fill(void) {
     lay();
     for (uint32_t slot = 1; slot <= 128; slot++) must(card_put(img, LEN, BLOCK, slot, in_block(162 - slot)).number == 0, "a put was refused");
     header = gpt_read_primary_header(img, LEN, BLOCK).header;
     backup = gpt_read_backup_header(img, LEN, BLOCK).header;
     memcpy(spare, img, LEN);
+    memcpy(head, img, HEAD);
+    memcpy(tail, img + LEN - TAIL, TAIL);
     update = card_start_clear(spare, LEN, BLOCK, 64).state;
     repair = card_start_repair(spare, LEN, BLOCK).state;
 }

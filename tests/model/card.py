@@ -7,7 +7,7 @@ import entries
 import headers
 import mbr
 from sums import crc32
-from units import ALL_32, NIL, Refused, call, need_block_size
+from units import ALL_32, NIL, Refused, call, length_of, need_block_size
 
 SLOTS = 128
 ARRAY = 16384
@@ -20,7 +20,7 @@ Card = namedtuple("Card", "last guid array usable used")
 def shape(img, b):
     """Document 01, The card calls: 8, then 10 if N - 1 < 2A + 3. Gives N - 1, the backup's block."""
     need_block_size(b)
-    last = headers.backup_block(len(img), b)
+    last = headers.backup_block(length_of(img), b)
     if last < 2 * (ARRAY // b) + 3:
         raise Refused(10)
     return last
@@ -191,17 +191,22 @@ def card_clear(img, b, slot):
     return (0,)
 
 
-@call(zero=(0,), lent=(0, 4))
-def card_write_payload(img, b, slot, place, data):
-    """Document 01, Payload write: the check, 18, 23, 24; the place counts from the partition's first byte."""
+def payload_start(img, b, slot, place, length):
+    """Document 01, Payload write: the check, 18, 23, 24; the place counts from the partition's first byte. The place of these bytes in the image."""
     card = check(img, b)
     need_slot(slot)
     if slot not in card.used:
         raise Refused(23)
     record = card.used[slot]
-    if place + len(data) > (record.last_lba - record.first_lba + 1) * b:
+    if place + length > (record.last_lba - record.first_lba + 1) * b:
         raise Refused(24)
-    start = record.first_lba * b + place
+    return record.first_lba * b + place
+
+
+@call(zero=(0,), lent=(0, 4))
+def card_write_payload(img, b, slot, place, data):
+    """Document 01, Payload write: it stores the bytes there."""
+    start = payload_start(img, b, slot, place, len(data))
     img[start : start + len(data)] = data
     return (len(data),)
 

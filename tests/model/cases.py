@@ -50,7 +50,7 @@ def put_guid(draw, image, b, at, record):
     with the blocks of one used slot and the GUID of a lower one, else mostly on free ground."""
     held = images.used_guids(image, b)
     kind = draw.below(7)
-    if kind == 0 and len(held) > 1:
+    if kind in (0, 4) and len(held) > 1:
         low, high = sorted(draw.random.sample(sorted(held), 2))
         first, last = images.used_blocks(image, b)[high]
         return record._replace(part_guid=held[low], first_lba=first, last_lba=last)
@@ -91,6 +91,12 @@ def payload(draw, image, b):
         length = 1 + draw.below(600)
         place = 2**64 - 1 - draw.below(length)
     return draw.block_size(b), at, place, draw.data(max(length, 0))
+
+
+def payload_place(draw, image, b):
+    """A slot, a place and a number of bytes: those of a payload write, or a number near 64 bits."""
+    size, at, place, data = payload(draw, image, b)
+    return size, at, place, len(data) if draw.chance(85) else draw.number(64, [2**64 - place])
 
 
 def lent_header(draw, image, b):
@@ -261,6 +267,8 @@ ON_IMAGE = {
     "card_put": put_call,
     "card_clear": size_and_slot,
     "card_write_payload": payload,
+    "card_payload_place": payload_place,
+    "card_read_payload": payload,
     "card_count_used": size_only,
     "card_next_used": size_and_slot,
     "card_read_slot": size_and_slot,

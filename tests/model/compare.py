@@ -3,6 +3,7 @@
 import time
 from collections import namedtuple
 
+import ends
 import images
 import model
 from library import LayoutError
@@ -12,8 +13,8 @@ Case = namedtuple("Case", "steps name args")
 
 
 def arguments(case):
-    """The arguments of a case, with the image that its steps make in front where it has steps."""
-    return (images.made(case.steps), *case.args) if case.steps else case.args
+    """The arguments of a case, with the image that its steps make, or its windows, in front where it has steps."""
+    return ends.given(case.name, images.made(case.steps), case.args) if case.steps else case.args
 
 
 def library_answer(library, name, args):
@@ -72,7 +73,9 @@ def simpler_cases(case):
 
 def kept_widths(was, now):
     """Whether a simpler argument still has the length that its place needs: boot code, signatures, GUID tails, names and the slot's
-    bytes in a state."""
+    bytes in a state; and whether windows are still cut by the same block size."""
+    if isinstance(was, ends.Cut):
+        return was.b == now.b
     if isinstance(was, bytes) and isinstance(now, bytes):
         return len(was) == len(now) or len(was) not in (4, 8, 128, 440)
     if isinstance(was, tuple):
@@ -126,10 +129,11 @@ def told(library, case):
     right = model.CALLS[case.name](*args)
     yield f"difference in {case.name}"
     if case.steps:
-        yield f"  image: {len(args[0])} bytes, made by these steps:"
+        image = images.made(case.steps)
+        yield f"  image: {len(image)} bytes, made by these steps:"
         yield from (f"    {step!r:.600}" for step in case.steps)
         yield "  its bytes that are not zero, from the front:"
-        yield from runs(args[0])
+        yield from runs(image)
     yield f"  arguments{' after the image' if case.steps else ''}: {case.args!r}"
     yield f"  library: {left[0]} {left[1]!r}, where {left[3]}"
     yield f"  model:   {right[0]} {right[1]!r}, where {right[3]}"

@@ -8,12 +8,16 @@ UEFI_PRIMARY = {0, 1, 2, 4, 29, 5, 30, 31}
 UEFI_BACKUP = {0, 1, 8, 4, 29, 5, 30, 31}
 UEFI_ARRAY = {0, 1, 7, 3, 2, 6}
 READER = {0, 1, 8, 10, 27}
+PUT = CHECK | {18, 19, 20, 21, 22, 25, 28}
+WINDOW = {3, 32}
 NUMBERS = {
     "card_lay": {0, 1, 8, 10},
     "card_check": CHECK,
     "card_put": CHECK | {18, 19, 20, 21, 22, 25, 28},
     "card_clear": CHECK | {18},
     "card_write_payload": CHECK | {18, 23, 24},
+    "card_payload_place": CHECK | {18, 23, 24},
+    "card_read_payload": CHECK | {18, 23, 24},
     "card_count_used": CHECK,
     "card_next_used": CHECK,
     "card_read_slot": CHECK | {18},
@@ -35,6 +39,29 @@ NUMBERS = {
     "card_reader_next": READER,
     "card_reader_slot": READER | {18},
     "card_reader_list": READER | {15},
+    "card_window_lay": WINDOW | {0, 1, 8, 10},
+    "card_window_check": WINDOW | CHECK,
+    "card_window_put": WINDOW | PUT,
+    "card_window_clear": WINDOW | CHECK | {18},
+    "card_window_count_used": WINDOW | CHECK,
+    "card_window_next_used": WINDOW | CHECK,
+    "card_window_read_slot": WINDOW | CHECK | {18},
+    "card_window_nth_used": WINDOW | CHECK,
+    "card_window_list": WINDOW | CHECK | {15},
+    "card_window_free_runs": WINDOW | CHECK | {15},
+    "card_window_map_make": WINDOW | CHECK,
+    "card_window_reader_copy": WINDOW | READER,
+    "card_window_reader_count": WINDOW | READER,
+    "card_window_reader_next": WINDOW | READER,
+    "card_window_reader_slot": WINDOW | READER | {18},
+    "card_window_reader_list": WINDOW | READER | {15},
+    "card_window_start_put": WINDOW | PUT,
+    "card_window_start_clear": WINDOW | CHECK | {18},
+    # A later stage has 26 in place of 3, 8 and 10.
+    "card_window_next_stage": {0, 1, 26, 32},
+    "card_window_start_repair": WINDOW | READER,
+    "card_window_next_repair": {0, 1, 26, 32},
+    "card_window_payload_place": WINDOW | CHECK | {18, 23, 24},
     "gpt_crc32": {0},
     "gpt_crc32_next": {0},
     "gpt_read_primary_header": {0, 1, 2, 4, 5},
@@ -90,6 +117,7 @@ NUMBERS = {
     "gpt_mbr_write_disk_signature": {0, 2},
 }
 CHECKED = {name for name, numbers in NUMBERS.items() if CHECK <= numbers}
+WINDOWED = {name for name, numbers in NUMBERS.items() if 32 in numbers}
 PLACES = {(number, place) for number in (4, 5, 16, 6) for place in (1, 2)} | {(17, 3), (17, 4)}
 CHECK_STEPS = {(number, side) for number in (4, 5, 16, 6) for side in ("front", "back")} | {
     (17, "disk GUID"),
@@ -124,7 +152,12 @@ REPAIR_STEPS = {
 PRODUCTS = {(3, step) for step in ("start product", "index product", "sum of the products", "end")}
 WRITES = {(3, "array start"), (2, "array"), (3, "own place"), (2, "own place")}
 BUILDS = {(3, "count times size"), (10, "backup too early"), (10, "first above last"), (3, "array start")}
-STEPS = {
+LENGTHS = {(32, "head"), (32, "tail")}
+STEPS = {name: LENGTHS for name in WINDOWED} | {
+    "card_window_put": LENGTHS | PUT_STEPS,
+    "card_window_free_runs": LENGTHS | {(15, "starts"), (15, "lengths")},
+    "card_window_next_stage": LENGTHS | REPAIR_STEPS | {(26, "no such slot")},
+    "card_window_next_repair": LENGTHS | REPAIR_STEPS,
     "card_check": CHECK_STEPS,
     "card_put": CHECK_STEPS | PUT_STEPS,
     "card_free_runs": {(15, "starts"), (15, "lengths")},

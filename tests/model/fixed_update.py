@@ -133,6 +133,8 @@ def plain_calls(b):
         "card_start_put": (b, 128, at(128, b, 5)),
         "card_start_clear": (b, 2),
         "card_write_payload": (b, 2, 0, b"map"),
+        "card_payload_place": (b, 2, 0, 3),
+        "card_read_payload": (b, 2, 0, b"map"),
         "card_count_used": (b,),
         "card_next_used": (b, 0),
         "card_read_slot": (b, 2),

@@ -1,9 +1,11 @@
-"""The free ground (document 02, 1/13), block by block."""
+"""The free ground (document 02, 1/13), block by block, and of a card with many blocks by what is between its slots."""
 
 import struct
 
 import card
 from units import Refused, call
+
+MANY = 10000
 
 
 def free_runs(held):
@@ -23,12 +25,24 @@ def free_runs(held):
     return runs
 
 
+def free_runs_between(held):
+    """The same of a card that has too many blocks to go through them: what is left before, between and behind the used slots, which share no
+    block and are all usable, as the check has found."""
+    first, last = held.usable
+    runs = []
+    for low, high in sorted((record.first_lba, record.last_lba) for record in held.used.values()):
+        if first < low:
+            runs.append((first, low - first))
+        first = high + 1
+    return [*runs, (first, last - first + 1)] if first <= last else runs
+
+
 @call(zero=(0,), lent=(0, 2, 3))
 def card_free_runs(img, b, starts, lengths):
     """Document 02, 1/13: the check, then 15 "exactly if either row is shorter than the count"; starts and lengths in rows of
     64-bit numbers, "places after the count stay"."""
     held = card.check(img, b)
-    runs = free_runs(held)
+    runs = free_runs(held) if held.last < MANY else free_runs_between(held)
     for step, row in (("starts", starts), ("lengths", lengths)):
         if len(row) // 8 < len(runs):
             raise Refused(15, step)

@@ -4,6 +4,7 @@ import random
 import struct
 from collections import namedtuple
 
+import ends
 import entries
 import headers
 import model
@@ -67,7 +68,7 @@ def applied(image, step):
         return random.Random(fill).randbytes(length) if fill else bytes(length)
     if kind == "call":
         name, *rest = args
-        return model.CALLS[name](image, *rest)[2][0]
+        return ends.left(name, image, rest, model.CALLS[name](*ends.given(name, image, rest))[2])
     if kind == "resize":
         return image[: args[0]].ljust(args[0], b"\0")
     return {"store": stored, "flip": flipped, "seal": sealed}[kind](image, *args)

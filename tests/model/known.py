@@ -74,6 +74,8 @@ def checked_calls(slot, held):
         "card_start_put": (B, slot, held),
         "card_start_clear": (B, slot),
         "card_write_payload": (B, slot, 0, b"map"),
+        "card_payload_place": (B, slot, 0, 3),
+        "card_read_payload": (B, slot, 0, b"map"),
         "card_count_used": (B,),
         "card_next_used": (B, 0),
         "card_read_slot": (B, slot),

@@ -280,6 +280,37 @@ DECLARED |= {
     "card_reader_list": (COUNT, LENT, c_uint64, LENT),
 }
 
+# Document 02, 10/13: all that card.h says of the calls on windows, which are the head, the tail, the block count and the block size; and of
+# the payload's place.
+WINDOWS = (LENT, LENT, c_uint64, c_uint64)
+SPOT = answer("card_spot", 24, *fields_of(c_uint32, "place", "differs", start=4), ("at", c_uint64, 16))
+DECLARED |= {
+    "card_window_lay": (CARD_ANSWER, *WINDOWS, GUID),
+    "card_window_check": (CARD_ANSWER, *WINDOWS),
+    "card_window_put": (CARD_ANSWER, *WINDOWS, c_uint32, PARTITION),
+    "card_window_clear": (CARD_ANSWER, *WINDOWS, c_uint32),
+    "card_window_count_used": (CARD_COUNT, *WINDOWS),
+    "card_window_next_used": (CARD_NEXT, *WINDOWS, c_uint32),
+    "card_window_read_slot": (CARD_SLOT_READ, *WINDOWS, c_uint32),
+    "card_window_nth_used": (CARD_USED_READ, *WINDOWS, c_uint32),
+    "card_window_list": (CARD_COUNT, *WINDOWS, LENT),
+    "card_window_free_runs": (CARD_COUNT, *WINDOWS, ROW_LENT, ROW_LENT),
+    "card_window_map_make": (MAP_MADE, *WINDOWS),
+    "card_window_reader_copy": (COPY, *WINDOWS),
+    "card_window_reader_count": (COUNT, *WINDOWS),
+    "card_window_reader_next": (NEXT, *WINDOWS, c_uint32),
+    "card_window_reader_slot": (SLOT_READ, *WINDOWS, c_uint32),
+    "card_window_reader_list": (COUNT, *WINDOWS, LENT),
+    "card_window_start_put": (UPDATE_STEP, *WINDOWS, c_uint32, PARTITION),
+    "card_window_start_clear": (UPDATE_STEP, *WINDOWS, c_uint32),
+    "card_window_next_stage": (UPDATE_STEP, *WINDOWS, c_uint32, UPDATE),
+    "card_window_start_repair": (REPAIR_STEP, *WINDOWS),
+    "card_window_next_repair": (REPAIR_STEP, *WINDOWS, c_uint32, REPAIR),
+    "card_payload_place": (SPOT, LENT, c_uint64, c_uint32, c_size_t, c_size_t),
+    "card_window_payload_place": (SPOT, *WINDOWS, c_uint32, c_size_t, c_size_t),
+    "card_read_payload": (CARD_STORED, LENT, c_uint64, c_uint32, c_size_t, LENT),
+}
+
 
 class Lent:
     """A copy of some bytes with guard bytes on both sides, at an address that need not be even, or at one for 64-bit numbers."""

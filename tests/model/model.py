@@ -7,10 +7,12 @@ import ground
 import headers
 import maps
 import mbr
+import payload
 import reader
 import stages
 import sums
 import uefi
+import windows
 
-PARTS = (card, ground, maps, stages, reader, sums, headers, builder, entries, uefi, mbr)
+PARTS = (card, ground, maps, stages, reader, payload, windows, sums, headers, builder, entries, uefi, mbr)
 CALLS = {name: function for part in PARTS for name, function in vars(part).items() if hasattr(function, "lent")}

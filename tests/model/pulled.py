@@ -4,6 +4,7 @@ import cases
 import collide
 import cuts
 import damage
+import ends
 import images
 import model
 import states
@@ -33,7 +34,7 @@ class Followed:
         """Compares a call; an image that it leaves has one step more."""
         steps = self.steps[image]
         answer = self.rounds.judge(steps, image, name, args)
-        self.steps.setdefault(answer[2][0], steps + [("call", name, *args)])
+        self.steps.setdefault(ends.left(name, image, args, answer[2]), steps + [("call", name, *args)])
         return answer
 
     def changed(self, image, hurt):
@@ -85,12 +86,12 @@ def drawn_update(draw, calls, image, b):
     return image, "put", args
 
 
-def spoil_copy(draw, image, b, side):
+def spoil_copy(draw, image, b, side, kinds=SPOIL):
     """Steps that spoil one copy by one of the reader's tests; the sums are right again where the test comes after them."""
     card = images.places(len(image), b)
     header, array = (card.front, card.front_array) if side == "front" else (card.back, card.back_array)
     seal = [("seal", b, side == "front", True)]
-    kind = draw.pick(SPOIL)
+    kind = draw.pick(kinds)
     if kind == "signature":
         return [("flip", header + draw.below(8), draw.below(8))] + (seal if draw.chance(50) else [])
     if kind == "own sum":

@@ -7,6 +7,7 @@ import coverage
 import library
 import model
 import states
+import wide
 from draws import Draw
 from units import NOWHERE
 
@@ -33,8 +34,8 @@ def wrong_values(rounds=100):
 
 def wrong_names():
     """Calls that one of the lists of calls has and another has not."""
-    drawn = {**cases.ON_IMAGE, **cases.LOOSE}
-    for place, names in {"library.py": library.DECLARED, "cases.py": drawn, "coverage.py": coverage.NUMBERS}.items():
+    drawn = {**cases.ON_IMAGE, **cases.LOOSE, **wide.ON_WINDOWS}
+    for place, names in {"library.py": library.DECLARED, "cases.py or wide.py": drawn, "coverage.py": coverage.NUMBERS}.items():
         for name in sorted(set(names) ^ set(model.CALLS)):
             yield f"{name}: {place} has it and the model has not, or the other way round"
 

@@ -7,7 +7,7 @@ import entries
 import headers
 import reader
 from sums import crc32
-from units import NIL, Refused, call, need_block_size
+from units import NIL, Refused, call, length_of, need_block_size
 
 Update = namedtuple("Update", "next slot b len entry guid parts")
 Repair = namedtuple("Repair", "next back b len guid parts")
@@ -54,7 +54,7 @@ def need_next(img, b, stage, state, stages, slot=1):
     causes = {
         "not the next stage": stage != state.next,
         "another block size": b != state.b,
-        "another length": len(img) != state.len,
+        "another length": length_of(img) != state.len,
         "no such stage": not 2 <= state.next <= stages,
         "no such slot": not 1 <= slot <= card.SLOTS,
         "too short": not has_room(state.len, b),
@@ -67,7 +67,7 @@ def need_next(img, b, stage, state, stages, slot=1):
 def update_stage(img, stage, state):
     """Document 02, 6/13: "the back array's changed block, the back header, the front array's changed block, the front header". The
     rest of an array's block is as the image has it. Gives the state for the next stage."""
-    last = headers.backup_block(len(img), state.b)
+    last = headers.backup_block(length_of(img), state.b)
     primary = int(stage > 2)
     if stage in (2, 4):
         block = 1 if primary else last
@@ -90,7 +90,7 @@ def stage_one(img, b, slot, tested):
         refusal.values = (*(refusal.values or (0,)), NO_UPDATE)
         raise
     parts = crc32(card.with_slot(checked.array, slot, raw))
-    return (0, update_stage(img, 1, Update(1, slot, b, len(img), raw, checked.guid, parts)))
+    return (0, update_stage(img, 1, Update(1, slot, b, length_of(img), raw, checked.guid, parts)))
 
 
 @call(zero=(0, NO_UPDATE), lent=(0,))
@@ -117,7 +117,7 @@ def repair_stage(img, stage, state):
     """Document 02, 6/13: "zeros in the other header block, the array's blocks ascending, the header". The array's blocks are those of
     the good copy as the image has them. Gives the state for the next stage."""
     b = state.b
-    last = headers.backup_block(len(img), b)
+    last = headers.backup_block(length_of(img), b)
     other, good = (1, 0) if state.back else (0, 1)
     block = 1 if other else last
     if stage == 1:
@@ -137,7 +137,7 @@ def card_start_repair(img, b):
     """Document 02, 6/13: "repair's stage one have 1, 8, 10, then 27". What is fixed: which copy is the good one, its disk GUID and its
     array's sum. Both good: the front is the one that the reader takes, and the back is written."""
     good = reader.taken(img, b)
-    return (0, repair_stage(img, 1, Repair(1, good.back, b, len(img), good.guid, good.parts)))
+    return (0, repair_stage(img, 1, Repair(1, good.back, b, length_of(img), good.guid, good.parts)))
 
 
 @call(zero=(0, NO_REPAIR), lent=(0,))

@@ -3,6 +3,7 @@
 import images
 import stages
 from draws import BAD_BLOCK_SIZES, SLOTS
+from units import ALL_64
 
 # The last four are stages again if a call drops their high bits.
 NO_STAGES = [0, 1, 5, 6, 7, 8, 35, 36, 37, 2**31, 2**32 - 1, 258, 65539, 2**31 + 2, 2**31 + 4]
@@ -11,7 +12,7 @@ NO_STAGES = [0, 1, 5, 6, 7, 8, 35, 36, 37, 2**31, 2**32 - 1, 258, 65539, 2**31 +
 def lengths(length, b):
     """Image lengths beside the given one: a byte or a block more or less, none, and the same again if high bits are dropped."""
     beside = [length - 1, length + 1, length - b, length + b, 0, 2**32 + length, 2**63 + length, 2**64 - 1]
-    return [other for other in beside if other >= 0]
+    return [other for other in beside if 0 <= other <= ALL_64]
 
 
 def forged(draw, state):

@@ -73,9 +73,14 @@ def fits(value, step, bits=64):
     return value
 
 
+def length_of(buffer):
+    """How many bytes a buffer has. An image of which only the windows are there (windows.py) says so itself, since len() ends at 2**63."""
+    return buffer.length if hasattr(buffer, "length") else len(buffer)
+
+
 def need_inside(buffer, start, length, step=""):
     """Document 01, Numbers: 2 if the byte range is not inside; an empty range is inside if it ends at or before the end."""
-    if start + length > len(buffer):
+    if start + length > length_of(buffer):
         raise Refused(2, step)
 
 

@@ -8,7 +8,7 @@ use native.Mathlib.Nat.{mul-le-mul-right, mul-le-mul-left, mul-sub, mul-comm}
 use native.Mathlib.Omega.{arith}
 use borrow.Author.Tests.{lt-ltb, le-ltb, ltb-false}
 use lib.Dec.{ltb}
-use lib.ListN.{length}
+use lib.ListN.{length, take, drop}
 use lib.Seq.{sets}
 use Rattle.units.specs.declared.BytePlace.{BytePlace}
 use Rattle.units.specs.declared.why.Why.{Why}
@@ -17,6 +17,7 @@ use Rattle.units.specs.declared.Refusal.the-variants.{EmptySlot}
 use Rattle.units.specs.Answer.{Answer, accepted, refused, refuse, plain, fine, when, ifZero, pick, judged, gives, Ends, ends}
 use Rattle.units.specs.Refusals.{whyAt, reasonOf}
 use Rattle.units.specs.Bytes.{part, num, allZero}
+use Rattle.units.proofs.Lists.{length-part, lent-part, sets-all}
 use Rattle.units.proofs.Chains.{found, past, last, none, else-first, none-when, else-second, Named, named-is, named-when, named-else, judged-none, judged-some, judged-zero, settle-accepted, settle-refused}
 use Rattle.partition.specs.Format.{firstAt, lastAt, nilTypeAt}
 use Rattle.tables.specs.Places.{lastUsable}
@@ -27,7 +28,7 @@ use Rattle.tables.proofs.Room.{Room}
 use Rattle.tables.proofs.EntryLaws.{Inside, ok-used, own-used}
 use Rattle.tables.proofs.Good.{room-ok, slot-ok, check-good}
 use Rattle.checking.proofs.CheckWays.{own-first, own-last, slot-good, named-slot}
-use Rattle.card.specs.Calls.{slotEntry, usedCheck, partitionBytes, payloadCheck, payloadPlace, payloadAt}
+use Rattle.card.specs.Calls.{slotEntry, usedCheck, partitionBytes, payloadCheck, payloadPlace, payloadAt, readAt}
 
 -- ---- what is read of a slot in the front table's bytes
 
@@ -119,7 +120,7 @@ module _ (w p m : ℕ) (v : BytePlace) where
 
 -- ---- the call's tests in their order
 
-named-used : (B n : ℕ) (t : Tables) (s : ℕ) → Named (usedCheck B n t s)
+pub named-used : (B n : ℕ) (t : Tables) (s : ℕ) → Named (usedCheck B n t s)
 unfolding usedCheck
 named-used B n t s = named-else (slotCheck B n t s) _ (named-slot B n t s) (named-when (not (used (slotEntry t s))) _ (named-is EmptySlot))
 
@@ -186,3 +187,23 @@ module _ (B : ℕ) (xs : List ℕ) (s p : ℕ) (ys : List ℕ) where
     pay-accepts {i} e =
         ends (settle-accepted (length ys) _ xs _ (told .0)
         ∙ ap (λ (x : List ℕ). gives (accepted (length ys)) x) (sym (e ∙ ap (λ (x : BytePlace). sets xs (x .0) ys) (told .1))))
+
+-- ---- a read
+
+module _ (B : ℕ) (xs : List ℕ) (s p : ℕ) (out : List ℕ) where
+  pub read-refuses : {w : Why} → _≡_ {A = Answer BytePlace} (refused w) (judged (payloadCheck B (length xs) (tables B xs) s p (length out)) (record { 0 = payloadPlace B (tables B xs) s p }))
+      → Ends (readAt B (length xs) xs s p out) (refused w) out
+  unfolding readAt
+  read-refuses {w} q =
+      let k = judged-refused _ (payloadCheck B (length xs) (tables B xs) s p (length out)) q in
+      ends (settle-refused (length out) _ out _ (k .0) ∙ ap (λ (u : Why). gives (refused u) out) (sym (k .1)))
+
+  pub read-accepts : {at : BytePlace} → _≡_ {A = Answer BytePlace} (accepted at) (judged (payloadCheck B (length xs) (tables B xs) s p (length out)) (record { 0 = payloadPlace B (tables B xs) s p }))
+      → {i : List ℕ} → i ≡ sets out 0 (take (at .0 + length out - at .0) (drop (at .0) xs)) → Ends (readAt B (length xs) xs s p out) (accepted (length out)) i
+  unfolding readAt
+  read-accepts {at} q {i} e =
+      let k = judged-accepted _ (payloadCheck B (length xs) (tables B xs) s p (length out)) q in
+      let l : length (part xs (at .0) (length out)) ≡ length out = length-part xs (at .0) (length out) (pay-inside B xs s p out q) in
+      ends (settle-accepted (length out) _ out _ (k .0)
+      ∙ ap (λ (x : List ℕ). gives (accepted (length out)) x)
+      (sym (e ∙ ap (λ (x : List ℕ). sets out 0 x) (lent-part xs (at .0) (length out)) ∙ sets-all out _ (sym l) ∙ ap (λ (x : BytePlace). part xs (x .0) (length out)) (k .1))))

@@ -11,6 +11,7 @@ use Rattle.units.specs.declared.Guid.{Guid}
 use Rattle.units.specs.declared.BytePlace.{BytePlace}
 use Rattle.units.specs.declared.why.Why.{Why}
 use Rattle.units.specs.Answer.{Answer, plain, ofSlot, when, orElse, judged, pick, Outcome, settle}
+use Rattle.units.specs.Bytes.{part}
 use Rattle.units.specs.Guids.{guidAt, guidBytes}
 use Rattle.partition.specs.declared.Partition.{Partition}
 use Rattle.partition.specs.Format.{entryBytes, tidied}
@@ -127,6 +128,14 @@ clearOutcome B xs s = clearAt B (length xs) xs s
 
 abbrev pub payloadOutcome : ℕ → List ℕ → ℕ → ℕ → List ℕ → Outcome (Answer ℕ)
 payloadOutcome B xs s p ys = payloadAt B (length xs) xs s p ys
+
+-- what a read of so many bytes as `out` has leaves there: the partition's from place p on. The answer is how many these are
+unfoldable pub readAt : ℕ → ℕ → List ℕ → ℕ → ℕ → List ℕ → Outcome (Answer ℕ)
+readAt B n xs s p out =
+    settle (payloadCheck B n (tablesAt B n xs) s p (length out)) (length out) out (part xs (payloadPlace B (tablesAt B n xs) s p) (length out))
+
+abbrev pub readOutcome : ℕ → List ℕ → ℕ → ℕ → List ℕ → Outcome (Answer ℕ)
+readOutcome B xs s p out = readAt B (length xs) xs s p out
 
 -- a GUID is the one in a table's header: by its fields, and by its sixteen bytes
 pub record KeptGuid (c : Copy) (g : Guid) : Type 0 where

@@ -1,4 +1,4 @@
--- What the answers of the card's own leaves mean. Assumes nothing.
+-- What the answer of payload_place means: the place, or the refusal. Assumes nothing.
 use Rattle.units.specs.declared.BytePlace.{BytePlace}
 use Rattle.units.specs.Answer.{Answer, accepted, refused}
 use Rattle.units.specs.Refusals.{whyAt}

@@ -238,7 +238,7 @@ pub fn change_copy<'a>(
 }
 
 // The same of the copy at a place of an image.
-fn change_at<'a>(
+pub fn change_at<'a>(
     t: &'a [u32; 4096],
     s: &mut [u8],
     place: BytePlace,

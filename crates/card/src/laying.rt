@@ -30,7 +30,7 @@ fn record_size(last: Lba) -> u32
 }
 
 // The protective MBR over bytes 0 to 511, for a backup in the last block.
-fn put_mbr(img: &mut [u8], last: Lba)
+pub fn put_mbr(img: &mut [u8], last: Lba)
     requires { ⌜ 512 ≤ length (now img) ⌝ }
     ensures { λ _. ⌜ now (img .exit) ≡ sets (now (img .entry)) 0 (mbr (last .0)) ⌝ }
 {
@@ -51,7 +51,7 @@ pub fn lay_copy(t: &[u32; 4096], copy: &mut [u8], len: usize, b: u64, back: bool
 }
 
 // The same of the copy at a place of an image.
-fn lay_at(
+pub fn lay_at(
     t: &[u32; 4096],
     s: &mut [u8],
     place: BytePlace,

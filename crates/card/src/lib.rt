@@ -1,8 +1,8 @@
 // The card: both tables laid, checked, changed and listed together, and payload written inside a partition. What each call promises is in specs/Calls.
 // Here stand the public calls: each takes every image and every number.
 pub mod changing; // changing.rt: what put tests, and what put and clear store; leaves for our own crates, no public calls
-mod laying; // laying.rt: what lay stores
-mod payload; // payload.rt: what a payload write tests, and where it stores
+pub mod laying; // laying.rt: what lay stores; leaves, likewise
+pub mod payload; // payload.rt: where a slot's bytes stand, which is a public call; the rest are leaves, likewise
 
 pub use checking::check;
 pub use listing::count_used;
@@ -12,6 +12,7 @@ pub use listing::nth_used;
 pub use listing::read_slot;
 use partition::Partition;
 use payload::Spot;
+pub use payload::payload_place;
 use units::BytePlace;
 use units::CardStored;
 use units::CardVerdict;
@@ -22,7 +23,7 @@ use units::why::Why;
 ghost use Rattle.units.proofs.Chains.{found};
 ghost use Rattle.units.specs.Answer.{Ends};
 ghost use Rattle.units.specs.Meanings.{cardMeans, cardStoredMeans};
-ghost use Rattle.card.specs.Calls.{layOutcome, putOutcome, clearOutcome, payloadOutcome};
+ghost use Rattle.card.specs.Calls.{layOutcome, putOutcome, clearOutcome, payloadOutcome, readOutcome};
 
 // Lays an empty card for a disk GUID, the MBR and both tables: 1 bad block size, 8 and 10 too small.
 pub fn lay(img: &mut [u8], b: u64, guid: Guid) -> CardVerdict
@@ -86,6 +87,21 @@ pub fn write_payload(
         Spot::Refused(w) => CardStored::Refused(w),
         Spot::At(at) => {
             units::inner::put_bytes(img, at.0, bytes);
+            CardStored::Bytes(n)
+        }
+    }
+}
+
+// Reads bytes at a place of a slot's partition into lent ones, as many as these are: the numbers of a payload write. It gives how many it read.
+pub fn read_payload(img: &[u8], b: u64, slot: Slot, place: BytePlace, out: &mut [u8]) -> CardStored
+    ensures { λ r. ⌜ Ends (readOutcome b (now (img .entry)) (slot .0) (place .0) (now (out .entry))) (cardStoredMeans r) (now (out .exit)) ⌝ }
+{
+    let n = out.len();
+    match payload::payload_place(img, b, slot, place, n) {
+        Spot::Refused(w) => CardStored::Refused(w),
+        Spot::At(at) => {
+            let from = at.0;
+            units::inner::put_bytes(out, 0, &img[from..from + n]);
             CardStored::Bytes(n)
         }
     }

@@ -40,7 +40,7 @@ pub struct Span {
 }
 
 // Whether a slot of the front table is unused.
-fn slot_unused(front: &[u8], b: u64, slot: Slot) -> bool
+pub fn slot_unused(front: &[u8], b: u64, slot: Slot) -> bool
     requires { ⌜ (b ≤ 4096) × (badSlot (slot .0) ≡ false) × (length (now front) ≡ b + 16384) ⌝ }
     ensures { λ r. ⌜ r ≡ not (used (entry (copyIn b Front (now (front .entry)) .array) (slot .0 - 1))) ⌝ }
 {
@@ -48,7 +48,7 @@ fn slot_unused(front: &[u8], b: u64, slot: Slot) -> bool
 }
 
 // The blocks of a slot of the front table.
-fn slot_span(front: &[u8], b: u64, slot: Slot) -> Span
+pub fn slot_span(front: &[u8], b: u64, slot: Slot) -> Span
     requires { ⌜ (b ≤ 4096) × (badSlot (slot .0) ≡ false) × (length (now front) ≡ b + 16384) ⌝ }
     ensures { λ r. ⌜ (r .first .0 ≡ firstOf (frontEntry b (now (front .entry)) (slot .0))) × (r .last .0 ≡ lastOf (frontEntry b (now (front .entry)) (slot .0))) ⌝ }
 {
@@ -77,7 +77,7 @@ pub fn used_check<'a>(t: &'a [u32; 4096], img: &'a [u8], b: u64, slot: Slot) -> 
 
 // Where n bytes at a place of a partition stand, in an image of len bytes: 24 if they pass the partition's end. The sum of place and n is never taken, so it cannot
 // wrap. The last test never refuses on a checked card; it keeps the store inside the image should another writer have changed the table since.
-fn place_in(span: Span, b: u64, place: BytePlace, n: usize, len: usize) -> Spot
+pub fn place_in(span: Span, b: u64, place: BytePlace, n: usize, len: usize) -> Spot
     requires { ⌜ (1 ≤ b) × (span .first .0 ≤ span .last .0) × ((span .last .0 + 1) * b ≤ len) ⌝ }
     ensures { λ r. ⌜ spotMeans r ≡ pick (ltb ((span .last .0 + 1 - span .first .0) * b) (place .0 + n)) (refuse 24) (accepted (record { 0 = span .first .0 * b + place .0 })) ⌝ }
 {

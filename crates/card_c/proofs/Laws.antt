@@ -2,11 +2,11 @@
 use mathlib.Core.Path.{_≡_, refl, sym, ap, _∙_}
 use mathlib.Core.Bool.{Bool}
 use mathlib.Core.List.{List, []}
-use Prim.Native.Nat.{ℕ, _/_, _≤_, _<_}
+use Prim.Native.Nat.{ℕ, zero, suc, _/_, _≤_, _<_}
 use borrow.Author.Tests.{lt-ltb, le-ltb}
 use lib.ListN.{length}
 use Rattle.units.specs.declared.why.Why.{Why}
-use Rattle.units.specs.Answer.{Answer, accepted, refused, refuse, fine, andThen, Beside, beside, Outcome, gives, Ends}
+use Rattle.units.specs.Answer.{Answer, accepted, refused, refuse, fine, ifZero, andThen, Beside, beside, Outcome, gives, Ends}
 use Rattle.partition.specs.Format.{entryAt}
 use Rattle.rows.specs.declared.Entry.{Entry}
 use Rattle.rows.specs.declared.inner.Plan.{Plan}
@@ -16,9 +16,11 @@ use Rattle.ground.specs.Answers.{Rows, RowsEnd}
 use Rattle.slot_map.specs.declared.SlotMap.{SlotMap}
 use Rattle.slot_map.specs.Bits.{mapOf}
 use Rattle.slot_map.proofs.BitLaws.{map-none}
+use Rattle.windows.specs.Windows.{whole, windowCheck, windowAnswer, Windowed, WindowEnds}
 use Rattle.card_c.specs.declared.answers.CardAnswer.{CardAnswer}
 use Rattle.card_c.specs.Exports.{outcomeToC, rowsToC, crossed, aside, countToC, answered, entryParsed}
 use Rattle.card_c.specs.CardExports.{whyToC, crossedAt, asideAt, mapBits, madeTold, MadeToC}
+use Rattle.card_c.specs.Windows.{windowToC}
 
 module _ {A S : Type 0} (make : ℕ → A → S) (z : A) where
   pub crossed-fine : (a : Answer A) {x : A} → a ≡ accepted x → make 0 x ≡ crossed make z a
@@ -112,3 +114,23 @@ pub count-plainly : (a : Answer ℕ) → countToC (plainly a) ≡ countToC a
 unfolding crossed
 count-plainly (accepted n) = refl
 count-plainly (refused w) = refl
+
+-- ---- the calls on two windows
+
+-- a call that ends so in both windows ends in the outcome so told
+pub told-window : {A C : Type 0} (f : A → C) (o : Windowed A) {a : A} {r : C} {h t : List ℕ} → WindowEnds o a h t → r ≡ f a → WindowEnds (windowToC f o) r h t
+told-window f o e q = record { answer = q ∙ ap f (e .answer); front = e .front; back = e .back }
+
+-- and so does one whose value stands beside the verdict
+pub told-window-beside : {A S : Type 0} (make : CardAnswer → A → S) (z : A) (o : Windowed (Answer A)) {a : Beside A} {r : S} {h t : List ℕ}
+    → WindowEnds (record { answer = beside z (o .answer); head = o .head; tail = o .tail }) a h t → r ≡ asideAt make a → WindowEnds (windowToC (crossedAt make z) o) r h t
+told-window-beside make z o e q = record { answer = q ∙ ap (asideAt make) (e .answer) ∙ aside-card make z (o .answer); front = e .front; back = e .back }
+
+-- the windows' own numbers come before the 15 of the lent rows
+pub window-within : (B N : ℕ) (head tail : List ℕ) (m : ℕ) (f g : List ℕ → Answer (List Entry)) → ((xs : List ℕ) → roomed m (f xs) ≡ g xs) → roomed m (windowAnswer B N head tail f) ≡ windowAnswer B N head tail g
+unfolding windowAnswer roomed
+window-within B N head tail m f g e = by (windowCheck B N (length head) (length tail)) (windowCheck B N (length head) (length tail) .number)
+  where
+    by : (w : Why) (n : ℕ) → roomed m (ifZero n (f (whole B N head tail)) (refused w)) ≡ ifZero n (g (whole B N head tail)) (refused w)
+    by w zero = e (whole B N head tail)
+    by w (suc n) = refl

@@ -5,6 +5,7 @@ use mathlib.Core.Bool.{Bool, false}
 use mathlib.Core.List.{List, []}
 use Prim.Native.Nat.{ℕ}
 use lib.ListN.{getD, replicate}
+use Rattle.units.specs.declared.BytePlace.{BytePlace}
 use Rattle.units.specs.declared.Place.{Place}
 use Rattle.units.specs.declared.Place.the-variants as place
 use Rattle.units.specs.declared.why.Why.{Why}
@@ -22,6 +23,7 @@ use Rattle.staged.specs.declared.Repair.{Repair}
 use Rattle.staged.specs.Meanings.{zeroUpdate}
 use Rattle.card_c.specs.declared.answers.CardAnswer.{CardAnswer}
 use Rattle.card_c.specs.declared.answers.CardStored.{CardStored}
+use Rattle.card_c.specs.declared.answers.CardSpot.{CardSpot}
 use Rattle.card_c.specs.declared.answers.CardCount.{CardCount}
 use Rattle.card_c.specs.declared.answers.CardNext.{CardNext}
 use Rattle.card_c.specs.declared.answers.CardSlotRead.{CardSlotRead}
@@ -67,6 +69,13 @@ cardStoredMade k n = record { number = k .number; place = k .place; differs = k 
 
 abbrev pub cardStoredToC : Answer ℕ → CardStored
 cardStoredToC a = crossedAt cardStoredMade 0 a
+
+-- the place in bytes
+abbrev pub spotMade : CardAnswer → BytePlace → CardSpot
+spotMade k p = record { number = k .number; place = k .place; differs = k .differs; at = p .0 }
+
+abbrev pub spotToC : Answer BytePlace → CardSpot
+spotToC a = crossedAt spotMade (record { 0 = 0 }) a
 
 abbrev pub cardCountMade : CardAnswer → ℕ → CardCount
 cardCountMade k n = record { number = k .number; count = n; place = k .place; differs = k .differs }

@@ -1,3 +1,4 @@
 -- The definitions that the contracts of the exports cite.
 pub mod Exports
 pub mod CardExports
+pub mod Windows

@@ -1,4 +1,5 @@
 // What comes back to C: document 01's number first, 0 for accepted, then the values; beside a refusal each value is zero. What each struct holds is in specs/Exports.
+use card::payload::Spot;
 use partition::Partition;
 use units::CardVerdict;
 use units::Place;
@@ -10,9 +11,10 @@ ghost use Rattle.units.specs.Answer.{numberOf};
 ghost use Rattle.units.specs.Refusals.{slotIn, whyAt};
 ghost use Rattle.units.specs.Meanings.{verdictMeans, storedMeans, cardMeans, cardStoredMeans};
 ghost use Rattle.partition.specs.Meanings.{countMeans, nextMeans, readMeans};
+ghost use Rattle.card.specs.Meanings.{spotMeans};
 ghost use Rattle.listing.specs.Meanings.{cardCountMeans, cardNextMeans, slotMeans, usedMeans};
 ghost use Rattle.card_c.specs.Exports.{storedToC, countToC, nextToC, aside, heldMade};
-ghost use Rattle.card_c.specs.CardExports.{placeNumber, differsIn, whyToC, answerToC, cardStoredToC, cardCountToC, cardNextToC, asideAt, cardHeldMade, usedMade};
+ghost use Rattle.card_c.specs.CardExports.{placeNumber, differsIn, whyToC, answerToC, cardStoredToC, spotToC, cardCountToC, cardNextToC, asideAt, cardHeldMade, usedMade};
 
 // The slot is the one that 22 and 25 carry, else 0. The place is 1 for the front table, 2 for the back one, 3 for the disk GUIDs and 4 for a slot, which is then the one that differs; else 0.
 #[repr(C)]
@@ -30,6 +32,15 @@ pub struct CardStored {
     pub place: u32,
     pub differs: u32,
     pub bytes: u64,
+}
+
+// Where a slot's bytes stand in a card.
+#[repr(C)]
+pub struct CardSpot {
+    pub number: u32,
+    pub place: u32,
+    pub differs: u32,
+    pub at: u64,
 }
 
 #[repr(C)]
@@ -190,6 +201,28 @@ pub fn card_stored_to_c(r: units::CardStored) -> CardStored
                 place: k.place,
                 differs: k.differs,
                 bytes: 0,
+            }
+        }
+    }
+}
+
+pub fn spot_to_c(r: Spot) -> CardSpot
+    ensures { λ o. ⌜ o ≡ spotToC (spotMeans r) ⌝ }
+{
+    match r {
+        Spot::At(p) => CardSpot {
+            number: 0,
+            place: 0,
+            differs: 0,
+            at: p.0 as u64,
+        },
+        Spot::Refused(w) => {
+            let k = reason_to_c(w);
+            CardSpot {
+                number: k.number,
+                place: k.place,
+                differs: k.differs,
+                at: 0,
             }
         }
     }

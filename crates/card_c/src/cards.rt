@@ -4,6 +4,7 @@ use crate::answers::CardAnswer;
 use crate::answers::CardCount;
 use crate::answers::CardNext;
 use crate::answers::CardSlotRead;
+use crate::answers::CardSpot;
 use crate::answers::CardStored;
 use crate::answers::CardUsedRead;
 use partition::Partition;
@@ -14,13 +15,13 @@ ghost use mathlib.Core.Path.{_≡_};
 ghost use Prim.Native.Nat.{_/_};
 ghost use lib.ListN.{length};
 ghost use Rattle.units.specs.Answer.{Ends};
-ghost use Rattle.card.specs.Calls.{layOutcome, putOutcome, clearOutcome, payloadOutcome};
+ghost use Rattle.card.specs.Calls.{layOutcome, putOutcome, clearOutcome, payloadOutcome, placeAnswer, readOutcome};
 ghost use Rattle.tables.specs.Check.{checkAnswer};
 ghost use Rattle.listing.specs.Listing.{countAnswer, nextAnswer, slotRead, nthAnswer};
 ghost use Rattle.listing.specs.LentRow.{listingRead};
 ghost use Rattle.rows.specs.RowBytes.{bytesOutcome};
 ghost use Rattle.card_c.specs.Exports.{outcomeToC};
-ghost use Rattle.card_c.specs.CardExports.{answerToC, cardStoredToC, cardCountToC, cardNextToC, cardHeldToC, usedToC};
+ghost use Rattle.card_c.specs.CardExports.{answerToC, cardStoredToC, spotToC, cardCountToC, cardNextToC, cardHeldToC, usedToC};
 
 // Lays an empty card: 1, 8, 10.
 #[no_mangle]
@@ -66,6 +67,34 @@ pub extern "C" fn card_write_payload(
     ensures { λ r. ⌜ Ends (outcomeToC cardStoredToC (payloadOutcome b (now (img .entry)) slot place (now (bytes .entry)))) r (now (img .exit)) ⌝ }
 {
     answers::card_stored_to_c(card::write_payload(img, b, Slot(slot), BytePlace(place), bytes))
+}
+
+// Where a payload write of n bytes at a place of a slot's partition would store them: 18, 23, 24 after the check.
+#[no_mangle]
+pub extern "C" fn card_payload_place(
+    img: &[u8],
+    b: u64,
+    slot: u32,
+    place: usize,
+    n: usize,
+) -> CardSpot
+    ensures { λ r. ⌜ r ≡ spotToC (placeAnswer b (now (img .entry)) slot place n) ⌝ }
+{
+    answers::spot_to_c(card::payload_place(img, b, Slot(slot), BytePlace(place), n))
+}
+
+// Reads bytes at a place of a slot's partition into lent ones: 18, 23, 24 after the check.
+#[no_mangle]
+pub extern "C" fn card_read_payload(
+    img: &[u8],
+    b: u64,
+    slot: u32,
+    place: usize,
+    out: &mut [u8],
+) -> CardStored
+    ensures { λ r. ⌜ Ends (outcomeToC cardStoredToC (readOutcome b (now (img .entry)) slot place (now (out .entry)))) r (now (out .exit)) ⌝ }
+{
+    answers::card_stored_to_c(card::read_payload(img, b, Slot(slot), BytePlace(place), out))
 }
 
 // How many slots are used: the check's numbers.

@@ -7,7 +7,7 @@ ghost use Rattle.ground.specs.Answers.{RowsEnd, runCountMeans, groundOutcome};
 ghost use Rattle.card_c.specs.Exports.{rowsToC};
 ghost use Rattle.card_c.specs.CardExports.{cardCountToC};
 
-fn run_count_to_c(r: RunCount) -> CardCount
+pub fn run_count_to_c(r: RunCount) -> CardCount
     ensures { λ o. ⌜ o ≡ cardCountToC (runCountMeans r) ⌝ }
 {
     match r {

@@ -4,6 +4,7 @@
 mod answers; // answers.rt: the structs that come back, and how each answer becomes one
 mod building; // building.rt: the header builder
 mod by_uefi; // by_uefi.rt: the second reading edition
+mod by_windows; // by_windows.rt: the card calls on two windows, the free ground, the slot map and the place of a payload
 mod cards; // cards.rt: the card calls
 mod entries; // entries.rt: partition entries
 mod grounds; // grounds.rt: the free ground
@@ -11,3 +12,4 @@ mod headers; // headers.rt: headers and the check sum
 mod maps; // maps.rt: the slot map
 mod mbrs; // mbrs.rt: the protective MBR
 mod pulled; // pulled.rt: the reader of a pulled card, and put, clear and repair in stages
+mod pulled_windows; // pulled_windows.rt: the reader and the stages on two windows

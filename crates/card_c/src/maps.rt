@@ -35,7 +35,7 @@ pub struct CardCarried {
     pub map: SlotMap,
 }
 
-fn made_to_c(r: MapMade) -> CardMapMade
+pub fn made_to_c(r: MapMade) -> CardMapMade
     ensures { λ o. ⌜ MadeToC (madeMeans r) o ⌝ }
 {
     match r {

@@ -50,7 +50,7 @@ pub struct CardRepairStep {
     pub state: Repair,
 }
 
-fn copy_to_c(r: GoodCopy) -> CardCopy
+pub fn copy_to_c(r: GoodCopy) -> CardCopy
     ensures { λ o. ⌜ o ≡ copyToC (copyMeans r) ⌝ }
 {
     match r {
@@ -69,7 +69,7 @@ fn copy_to_c(r: GoodCopy) -> CardCopy
     }
 }
 
-fn update_to_c(r: UpdateStep) -> CardUpdateStep
+pub fn update_to_c(r: UpdateStep) -> CardUpdateStep
     ensures { λ o. ⌜ o ≡ asideAt updateMade (updateMeans r) ⌝ }
 {
     let verdict = r.verdict;
@@ -99,7 +99,7 @@ fn zero_repair() -> Repair
     }
 }
 
-fn repair_to_c(r: RepairStep) -> CardRepairStep
+pub fn repair_to_c(r: RepairStep) -> CardRepairStep
     ensures { λ o. ⌜ o ≡ repairToC (repairMeans r) ⌝ }
 {
     match r {

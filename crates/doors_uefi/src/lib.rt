@@ -2,10 +2,13 @@
 // Nobody calls them. They are there to be changed: each edit under must-fail puts an impostor behind a door, and the door's contract must refuse it.
 use header::Header;
 use header::HeaderRead;
+use header::Revision;
 use partition::NextPartition;
 use partition::Partition;
 use partition::PartitionCount;
 use partition::PartitionRead;
+use units::Guid;
+use units::Lba;
 use units::Refusal;
 use units::Slot;
 use units::Verdict;

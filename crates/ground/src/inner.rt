@@ -1,5 +1,6 @@
 // Leaves for our own crates: each `requires` is what its caller has tested. No public calls.
 // `copy` is the front table's own b + 16,384 bytes, as in `tables::inner`, with its array at `array`; `len` is the card's length in bytes.
+use crate::RunCount;
 use units::BytePlace;
 use units::Lba;
 use units::Place;
@@ -14,7 +15,7 @@ ghost use lib.Seq.{sets};
 ghost use Rattle.units.specs.Bytes.{part};
 ghost use Rattle.ground.specs.Ground.{Run};
 ghost use Rattle.ground.specs.Search.{Checked, At, Nearest, Next, nearerOf, frontRuns};
-ghost use Rattle.ground.specs.Answers.{rowsCheck, rowsOutcome, RowsEnd};
+ghost use Rattle.ground.specs.Answers.{rowsCheck, rowsOutcome, RowsEnd, runCountOf};
 
 // The blocks of a used entry. Where there is none: the block after the last usable one, and the last usable one.
 struct Span {
@@ -170,4 +171,15 @@ pub fn runs_into(
     }
     fill(copy, len, b, n, starts, lengths);
     Counted { found, count: n }
+}
+
+// The answer by its name: a refusal, or a count where nothing refuses.
+pub fn answer(found: Why, count: u32) -> RunCount
+    ensures { λ r. ⌜ r ≡ runCountOf found count ⌝ }
+{
+    let n = found.number;
+    if n == 0 {
+        return RunCount::Runs(count);
+    }
+    RunCount::Refused(found.reason())
 }

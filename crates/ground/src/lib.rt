@@ -3,25 +3,12 @@
 pub mod inner; // inner.rt: the same of a front table by its own bytes, for callers that have checked the card
 
 use units::Reason;
-use units::why::Why;
-ghost use mathlib.Core.Path.{_≡_};
-ghost use Rattle.ground.specs.Answers.{RowsEnd, runCountMeans, runCountOf, groundOutcome};
+ghost use Rattle.ground.specs.Answers.{RowsEnd, runCountMeans, groundOutcome};
 
 // How many runs there are, or why not and where.
 pub enum RunCount {
     Runs(u32),
     Refused(Reason),
-}
-
-// The answer by its name: a refusal, or a count where nothing refuses.
-fn answer(found: Why, count: u32) -> RunCount
-    ensures { λ r. ⌜ r ≡ runCountOf found count ⌝ }
-{
-    let n = found.number;
-    if n == 0 {
-        return RunCount::Runs(count);
-    }
-    RunCount::Refused(found.reason())
 }
 
 // All runs, ascending, into the first places of the two rows; the places after the count stay: the card check's numbers, then 15 if either row is shorter than the count.
@@ -32,7 +19,7 @@ pub fn free_runs(img: &[u8], b: u64, starts: &mut [u64], lengths: &mut [u64]) ->
     let t = crc32::inner::table();
     let found = checking::inner::check_with(&t, img, b);
     if found.number != 0 {
-        return answer(found, 0);
+        return inner::answer(found, 0);
     }
     let size = b as usize;
     let c = inner::runs_into(
@@ -42,5 +29,5 @@ pub fn free_runs(img: &[u8], b: u64, starts: &mut [u64], lengths: &mut [u64]) ->
         starts,
         lengths,
     );
-    answer(c.found, c.count)
+    inner::answer(c.found, c.count)
 }

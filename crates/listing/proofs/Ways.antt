@@ -49,6 +49,11 @@ check-room B xs e = else-first (roomCheck B (length xs)) _ (judged-zero tt (chec
 
 -- ---- the leaves: what they read of the image is what the front table has
 
+-- the 128 entries of an array fill it
+pub filled : (m : ℕ) → m ≡ 16384 → insideOrEmpty m 0 (128 * 128) ≡ true
+unfolding insideOrEmpty inside
+filled m e = rw (le-leb (128 * 128) m (omega arith))
+
 module _ (B : ℕ) (xs : List ℕ) (h : roomCheck B (length xs) .number ≡ 0) where
   room : Room B (length xs)
   room = room-ok B (length xs) h
@@ -99,11 +104,6 @@ module _ (arr : List ℕ) (after : ℕ) {next : ℕ} (e : next ≡ firstSlot arr
   first-left l k q =
       let j : k + 0 ≡ k = omega arith in
       e ∙ ap (λ (m : List ℕ). getD m 0 0) (sym q) ∙ getD-drop k l 0 0 ∙ ap (λ (m : ℕ). getD l m 0) j
-
--- before the first one all are left
-pub all-left : (B : ℕ) (xs : List ℕ) → drop 0 (presentSlots (tables B xs)) ≡ presentFrom (tables B xs .front .array) 0 0 (128 - 0)
-unfolding presentSlots
-all-left B xs = refl
 
 -- ---- the calls
 

@@ -17,7 +17,7 @@ ghost use lib.ListN.{length, getD};
 ghost use Rattle.units.proofs.Chains.{found};
 ghost use Rattle.units.specs.declared.CardVerdict.the-variants as verdict;
 ghost use Rattle.partition.specs.Format.{entryAt, zeroPartition};
-ghost use Rattle.partition.specs.Array.{entryPlace, present, firstSlot};
+ghost use Rattle.partition.specs.Array.{entryPlace, present, firstSlot, presentFrom};
 ghost use Rattle.rows.specs.Plans.{Made, planned, countBy};
 ghost use Rattle.tables.specs.Lens.{tables};
 ghost use Rattle.tables.specs.Check.{roomCheck, badSlot};
@@ -60,22 +60,32 @@ pub fn used_after(img: &[u8], b: u64, after: Slot) -> Slot
     partition::inner::next_present(img, array.0, 128, after)
 }
 
-// Used slot k, counted from 0; slot 0 where k is not below the count.
-pub fn nth_slot(img: &[u8], b: u64, k: u32) -> Slot
-    requires { ⌜ roomCheck b (length (now img)) .number ≡ 0 ⌝ }
-    ensures { λ r. ⌜ r .0 ≡ getD (presentSlots (tables b (now (img .entry)))) k 0 ⌝ }
+// Present slot k of an array, counted from 0; slot 0 where k is not below the count.
+pub fn nth_in(array: &[u8], k: u32) -> Slot
+    requires { ⌜ length (now array) ≡ 16384 ⌝ }
+    ensures { λ r. ⌜ r .0 ≡ getD (presentFrom (now (array .entry)) 0 0 128) k 0 ⌝ }
 {
     let mut after = Slot(0);
     let mut i = 0;
     while i < k {
-        let next = used_after(img, b, after);
+        let next = partition::inner::next_present(array, 0, 128, after);
         if next.0 == 0 {
             return Slot(0);
         }
         after = next;
         i += 1;
     }
-    used_after(img, b, after)
+    partition::inner::next_present(array, 0, 128, after)
+}
+
+// Used slot k, counted from 0; slot 0 where k is not below the count.
+pub fn nth_slot(img: &[u8], b: u64, k: u32) -> Slot
+    requires { ⌜ roomCheck b (length (now img)) .number ≡ 0 ⌝ }
+    ensures { λ r. ⌜ r .0 ≡ getD (presentSlots (tables b (now (img .entry)))) k 0 ⌝ }
+{
+    let array = front_array(b);
+    let at = array.0;
+    nth_in(&img[at..at + 16384], k)
 }
 
 // Whether a slot's entry is present.

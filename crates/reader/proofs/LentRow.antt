@@ -61,7 +61,7 @@ module _ (xs : List ℕ) (at : ℕ) where
       go true e r = cc
       go false e r = r
 
-  entries-in-part : presentEntries xs at 128 ≡ presentEntries arr 0 128
+  pub entries-in-part : presentEntries xs at 128 ≡ presentEntries arr 0 128
   unfolding presentEntries
   entries-in-part = from-in-part 128 0 (omega arith)
 
@@ -79,7 +79,7 @@ module _ (B : ℕ) (xs : List ℕ) {f : ℕ} (e : f ≡ readerCheck B (length xs
 -- ---- 15 comes last
 
 -- the test of the row, behind what is found before a row is lent
-row-last : (m : ℕ) (es : List Entry) (w : Why) → roomed m (judged w es) ≡ judged (orElse w (when (ltb m (length es)) (plain 15))) es
+pub row-last : (m : ℕ) (es : List Entry) (w : Why) → roomed m (judged w es) ≡ judged (orElse w (when (ltb m (length es)) (plain 15))) es
 unfolding roomed judged orElse
 row-last m es w = by (w .number) refl
   where
@@ -99,7 +99,7 @@ read-within B xs m = row-last m _ (readerCheck B (length xs) (tables B xs))
 
 -- ---- no refusal names a place
 
-row-plainly : (w : Why) (es row : List Entry) → Bare w → plainly (rowOutcome (judged w es) row .answer) ≡ rowOutcome (judged w es) row .answer
+pub row-plainly : (w : Why) (es row : List Entry) → Bare w → plainly (rowOutcome (judged w es) row .answer) ≡ rowOutcome (judged w es) row .answer
 unfolding judged rowOutcome
 row-plainly w es row b = by (w .number)
   where

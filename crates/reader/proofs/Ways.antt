@@ -58,6 +58,17 @@ module _ (B n : ℕ) (t : Tables) {p : Bool} (e : p ≡ passes B n Front (t .fro
         let l : passes B n Back (t .back) ≡ false = sym f ∙ g in
         (rw (k, l), rw k)
 
+-- ---- a refusal by its number, which names neither slot nor place, and then by its name
+
+pub why-by : (w : Why) → Bare w → Named w → {f : ℕ} {r : Refusal} → f ≡ w .number → (f ≡ 0 → ⊥) → r ≡ refusalOf (plain f) → why r ≡ w
+unfolding reasonOf
+why-by w b k {f} e d q =
+    ap why q
+    ∙ ap (λ (i : ℕ). why (refusalOf (plain i))) e
+    ∙ ap (λ (x : Why). why (refusalOf x)) (sym (b .bare))
+    ∙ ap (λ (p : Place). record { number = number (refusalOf w); slot = record { 0 = slotIn (refusalOf w) }; place = p }) (sym (ap (λ (x : Why). x .place) (b .bare)))
+    ∙ k .name (λ z. d (e ∙ z))
+
 -- ---- after the room
 
 module _ (B n : ℕ) (t : Tables) where
@@ -100,13 +111,7 @@ module _ (B n : ℕ) (t : Tables) where
   bare-reader = bare-else (roomCheck B n) _ (bare-room B n) (record { bare = refl })
 
   pub reader-why : {f : ℕ} {r : Refusal} → f ≡ readerCheck B n t .number → (f ≡ 0 → ⊥) → r ≡ refusalOf (plain f) → why r ≡ readerCheck B n t
-  unfolding reasonOf
-  reader-why {f} e d q =
-      ap why q
-      ∙ ap (λ (k : ℕ). why (refusalOf (plain k))) e
-      ∙ ap (λ (w : Why). why (refusalOf w)) (sym (bare-reader .bare))
-      ∙ ap (λ (p : Place). record { number = number (refusalOf (readerCheck B n t)); slot = record { 0 = slotIn (refusalOf (readerCheck B n t)) }; place = p }) (sym (ap (λ (w : Why). w .place) (bare-reader .bare)))
-      ∙ named-reader .name (λ z. d (e ∙ z))
+  reader-why e d q = why-by (readerCheck B n t) bare-reader named-reader e d q
 
 -- ---- the array that is read
 

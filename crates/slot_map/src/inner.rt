@@ -1,12 +1,14 @@
 // Leaves for our own crates: each `requires` is what its caller has tested. No public calls.
+use crate::MapMade;
 use crate::SlotMap;
+use units::why::Why;
 ghost use mathlib.Core.Path.{_≡_};
 ghost use mathlib.Core.Bool.{true, false};
 ghost use Prim.Native.Nat.{_+_, _≤_, _<_};
 ghost use lib.ListN.{length, set};
 ghost use Rattle.tables.specs.Lens.{Front, copyIn};
 ghost use Rattle.slot_map.specs.Bits.{bitsOf, mapOf, firstFalse, countTrue};
-ghost use Rattle.slot_map.specs.Map.{flagsFrom};
+ghost use Rattle.slot_map.specs.Map.{flagsFrom, madeOf};
 
 // A word with bit k set, and with bit k clear.
 fn word_set(x: u64, k: u64) -> u64
@@ -78,4 +80,15 @@ pub fn map_of(copy: &[u8], b: u64) -> SlotMap
         k += 1;
     }
     m
+}
+
+// The answer by its name: a refusal, or the map where nothing refuses.
+pub fn made(found: Why, map: SlotMap) -> MapMade
+    ensures { λ r. ⌜ r ≡ madeOf found map ⌝ }
+{
+    let n = found.number;
+    if n == 0 {
+        return MapMade::Map(map);
+    }
+    MapMade::Refused(found.reason())
 }

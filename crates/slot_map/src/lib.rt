@@ -8,7 +8,6 @@ use units::Reason;
 use units::Refusal;
 use units::Slot;
 use units::SlotFound;
-use units::why::Why;
 ghost use mathlib.Core.Path.{_≡_};
 ghost use mathlib.Core.Bool.{true, false};
 ghost use Prim.Native.Nat.{_-_, _<_};
@@ -17,7 +16,7 @@ ghost use Rattle.units.specs.Meanings.{cardMeans, slotMeans};
 ghost use Rattle.card.specs.Calls.{putOutcome, clearOutcome};
 ghost use Rattle.history.specs.History.{taken};
 ghost use Rattle.slot_map.specs.Bits.{mapOf, countTrue};
-ghost use Rattle.slot_map.specs.Map.{freeAnswer, madeMeans, madeOf, madeAnswer, marked};
+ghost use Rattle.slot_map.specs.Map.{freeAnswer, madeMeans, madeAnswer, marked};
 
 // A bit for each slot, 1 where it is used: slots 1 to 64 in the low word, least bit first, slots 65 to 128 in the high one.
 #[repr(C)]
@@ -62,17 +61,6 @@ impl SlotMap {
     }
 }
 
-// The answer by its name: a refusal, or the map where nothing refuses.
-fn made(found: Why, map: SlotMap) -> MapMade
-    ensures { λ r. ⌜ r ≡ madeOf found map ⌝ }
-{
-    let n = found.number;
-    if n == 0 {
-        return MapMade::Map(map);
-    }
-    MapMade::Refused(found.reason())
-}
-
 // The map of a card: the card check's numbers.
 pub fn slot_map(img: &[u8], b: u64) -> MapMade
     ensures { λ r. ⌜ madeMeans r ≡ madeAnswer b (now (img .entry)) ⌝ }
@@ -80,10 +68,10 @@ pub fn slot_map(img: &[u8], b: u64) -> MapMade
     let t = crc32::inner::table();
     let found = checking::inner::check_with(&t, img, b);
     if found.number != 0 {
-        return made(found, SlotMap { low: 0, high: 0 });
+        return inner::made(found, SlotMap { low: 0, high: 0 });
     }
     let size = b as usize;
-    made(found, inner::map_of(&img[size..size + (size + 16384)], b))
+    inner::made(found, inner::map_of(&img[size..size + (size + 16384)], b))
 }
 
 // The map after a call on a slot that comes back with a verdict: with the slot's bit where it is accepted, else as it came.

@@ -1,27 +1,36 @@
 // Leaves for our own crates: each `requires` is what its caller has tested. No public calls.
 // `copy` is one table's own b + 16,384 bytes, as in `tables::inner`. An update or a repair goes by value, with all that its stores need but the blocks that a repair copies.
 use crate::Repair;
+use crate::RepairStep;
 use crate::Update;
+use crate::UpdateStep;
 use units::BytePlace;
 use units::Guid;
+use units::Place;
 use units::Slot;
 use units::why;
+use units::why::Why;
 ghost use mathlib.Core.Path.{_≡_};
 ghost use mathlib.Core.Logic.{_⊎_};
 ghost use mathlib.Core.Bool.{false};
 ghost use Prim.Native.Nat.{_+_, _*_, _≤_, _<_};
 ghost use lib.ListN.{length};
 ghost use lib.Seq.{sets};
+ghost use Rattle.units.specs.Answer.{plain};
 ghost use Rattle.units.specs.Bytes.{part};
+ghost use Rattle.units.specs.Meanings.{verdictOf};
+ghost use Rattle.units.specs.Refusals.{reasonOf};
 ghost use Rattle.crc32.specs.Rows.{Rows};
 ghost use Rattle.tables.specs.Places.{arrayBlocks};
 ghost use Rattle.tables.specs.Lens.{Front, sideOf, copyIn, copyAt, Tables, tables};
 ghost use Rattle.tables.specs.Entries.{zeros};
 ghost use Rattle.tables.specs.Check.{roomCheck, tableCheck, badSlot, check};
+ghost use Rattle.staged.specs.declared.RepairStep.the-variants as repair;
+ghost use Rattle.staged.specs.Meanings.{zeroUpdate};
 ghost use Rattle.staged.specs.Stages.{fixed};
 ghost use Rattle.staged.specs.Repairs.{repairFrom};
 ghost use Rattle.staged.specs.Stores.{copyPlace, storeIn, storeBytes, stageStore, headerStore, zeroStore, blockStore, repairStore};
-ghost use Rattle.staged.specs.Numbers.{leads, nextCheck, leadsRepair, nextRepairCheck};
+ghost use Rattle.staged.specs.Numbers.{leads, nextCheck, leadsRepair, nextRepairCheck, onward, onwardRepair};
 ghost use Rattle.tables.specs.Lens.{headerIn};
 
 // The state does not lead to the stage that was called.
@@ -269,4 +278,78 @@ pub fn next_repair_check(len: usize, b: u64, k: u32, r: Repair) -> u32
         return WRONG_STAGE;
     }
     0
+}
+
+// The state after the stage that it led to.
+pub fn onward(u: Update) -> Update
+    requires { ⌜ u .next ≤ 4 ⌝ }
+    ensures { λ r. ⌜ r ≡ onward u ⌝ }
+{
+    let entry = u.entry;
+    let guid = u.guid;
+    let slot = u.slot;
+    Update {
+        next: u.next + 1,
+        slot,
+        b: u.b,
+        len: u.len,
+        entry,
+        guid,
+        parts: u.parts,
+    }
+}
+
+// The same of a repair.
+pub fn onward_repair(r: Repair) -> Repair
+    requires { ⌜ r .next ≤ 34 ⌝ }
+    ensures { λ y. ⌜ y ≡ onwardRepair r ⌝ }
+{
+    let guid = r.guid;
+    Repair {
+        next: r.next + 1,
+        back: r.back,
+        b: r.b,
+        len: r.len,
+        guid,
+        parts: r.parts,
+    }
+}
+
+// The answer of a refused stage of an update.
+pub fn refused(found: Why) -> UpdateStep
+    ensures { λ r. ⌜ r ≡ record { verdict = verdictOf found; state = zeroUpdate } ⌝ }
+{
+    let guid = Guid::nil();
+    let state = Update {
+        next: 0,
+        slot: Slot(0),
+        b: 0,
+        len: 0,
+        entry: [0; 128],
+        guid,
+        parts: 0,
+    };
+    UpdateStep {
+        verdict: found.verdict(),
+        state,
+    }
+}
+
+// A refusal by a number that names nothing.
+pub fn by_number(number: u32) -> Why
+    ensures { λ r. ⌜ r ≡ plain number ⌝ }
+{
+    Why {
+        number,
+        slot: Slot(0),
+        place: Place::Nowhere,
+    }
+}
+
+// The answer of a refused stage of a repair, by a number that names nothing.
+pub fn repair_refused(number: u32) -> RepairStep
+    ensures { λ r. ⌜ r ≡ repair.Refused (reasonOf (plain number)) ⌝ }
+{
+    let found = by_number(number);
+    RepairStep::Refused(found.reason())
 }

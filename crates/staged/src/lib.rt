@@ -5,18 +5,11 @@ pub mod inner; // inner.rt: what stage one fixes, each store, and the test of a 
 use partition::Partition;
 use units::CardVerdict;
 use units::Guid;
-use units::Place;
 use units::Reason;
 use units::Slot;
-use units::why::Why;
-ghost use mathlib.Core.Path.{_≡_};
-ghost use Prim.Native.Nat.{_≤_};
-ghost use Rattle.units.specs.Answer.{Ends, plain};
-ghost use Rattle.units.specs.Meanings.{verdictOf};
-ghost use Rattle.units.specs.Refusals.{reasonOf};
-ghost use Rattle.staged.specs.declared.RepairStep.the-variants as repair;
-ghost use Rattle.staged.specs.Numbers.{startPut, startClear, nextStage, startRepair, nextRepair, onward, onwardRepair};
-ghost use Rattle.staged.specs.Meanings.{updateMeans, besideZero, zeroUpdate, repairMeans};
+ghost use Rattle.units.specs.Answer.{Ends};
+ghost use Rattle.staged.specs.Numbers.{startPut, startClear, nextStage, startRepair, nextRepair};
+ghost use Rattle.staged.specs.Meanings.{updateMeans, besideZero, repairMeans};
 
 // A put or a clear between its stages: the next stage, what stage one fixed (the slot, its 128 bytes, the disk GUID and the sum of the new array), and the block size
 // and the length in bytes of the image that it began on.
@@ -55,76 +48,6 @@ pub enum RepairStep {
     Refused(Reason),
 }
 
-impl Update {
-    // The state after the stage that it led to.
-    fn onward(self) -> Update
-        requires { ⌜ self .next ≤ 4 ⌝ }
-        ensures { λ r. ⌜ r ≡ onward self ⌝ }
-    {
-        let entry = self.entry;
-        let guid = self.guid;
-        let slot = self.slot;
-        Update {
-            next: self.next + 1,
-            slot,
-            b: self.b,
-            len: self.len,
-            entry,
-            guid,
-            parts: self.parts,
-        }
-    }
-}
-
-impl Repair {
-    // The same of a repair.
-    fn onward(self) -> Repair
-        requires { ⌜ self .next ≤ 34 ⌝ }
-        ensures { λ r. ⌜ r ≡ onwardRepair self ⌝ }
-    {
-        let guid = self.guid;
-        Repair {
-            next: self.next + 1,
-            back: self.back,
-            b: self.b,
-            len: self.len,
-            guid,
-            parts: self.parts,
-        }
-    }
-}
-
-// The answer of a refused stage of an update.
-fn refused(found: Why) -> UpdateStep
-    ensures { λ r. ⌜ r ≡ record { verdict = verdictOf found; state = zeroUpdate } ⌝ }
-{
-    let guid = Guid::nil();
-    let state = Update {
-        next: 0,
-        slot: Slot(0),
-        b: 0,
-        len: 0,
-        entry: [0; 128],
-        guid,
-        parts: 0,
-    };
-    UpdateStep {
-        verdict: found.verdict(),
-        state,
-    }
-}
-
-// A refusal by a number that names nothing.
-fn by_number(number: u32) -> Why
-    ensures { λ r. ⌜ r ≡ plain number ⌝ }
-{
-    Why {
-        number,
-        slot: Slot(0),
-        place: Place::Nowhere,
-    }
-}
-
 // Stage one of a put: its tests and numbers are put's, and where they pass the slot's bytes are stored in the back table. Nothing else may write the image before the last stage.
 pub fn start_put(img: &mut [u8], b: u64, slot: Slot, p: Partition) -> UpdateStep
     ensures { λ r. ⌜ Ends (besideZero (startPut b (now (img .entry)) (slot .0) p)) (updateMeans r) (now (img .exit)) ⌝ }
@@ -134,7 +57,7 @@ pub fn start_put(img: &mut [u8], b: u64, slot: Slot, p: Partition) -> UpdateStep
     let t = crc32::inner::table();
     let found = card::changing::put_check(&t, img, b, slot, &e, reserved);
     if found.number != 0 {
-        return refused(found);
+        return inner::refused(found);
     }
     let state = inner::begin(&t, img, b, slot, e);
     UpdateStep {
@@ -150,7 +73,7 @@ pub fn start_clear(img: &mut [u8], b: u64, slot: Slot) -> UpdateStep
     let t = crc32::inner::table();
     let found = checking::inner::slot_check(&t, img, b, slot);
     if found.number != 0 {
-        return refused(found);
+        return inner::refused(found);
     }
     let state = inner::begin(&t, img, b, slot, [0; 128]);
     UpdateStep {
@@ -165,23 +88,15 @@ pub fn next_stage(img: &mut [u8], b: u64, stage: u32, state: Update) -> UpdateSt
 {
     let found = inner::next_check(img.len(), b, stage, state);
     if found != 0 {
-        return refused(by_number(found));
+        return inner::refused(inner::by_number(found));
     }
     let t = crc32::inner::table();
     inner::store_stage(&t, img, state, stage);
-    let next = state.onward();
+    let next = inner::onward(state);
     UpdateStep {
         verdict: CardVerdict::Accepted,
         state: next,
     }
-}
-
-// The answer of a refused stage of a repair, by a number that names nothing.
-fn repair_refused(number: u32) -> RepairStep
-    ensures { λ r. ⌜ r ≡ repair.Refused (reasonOf (plain number)) ⌝ }
-{
-    let found = by_number(number);
-    RepairStep::Refused(found.reason())
 }
 
 // Stage one of a repair: 1, 8, 10, then 27 where neither table passes. It stores zeros over the header of the table that the reader does not take.
@@ -190,7 +105,7 @@ pub fn start_repair(img: &mut [u8], b: u64) -> RepairStep
 {
     let found = reader::inner::choose(img, b);
     if found.number != 0 {
-        return repair_refused(found.number);
+        return inner::repair_refused(found.number);
     }
     let good = inner::repair_of(img, b, found.back);
     inner::store_zeros(img, b, !found.back);
@@ -203,9 +118,9 @@ pub fn next_repair(img: &mut [u8], b: u64, stage: u32, state: Repair) -> RepairS
 {
     let found = inner::next_repair_check(img.len(), b, stage, state);
     if found != 0 {
-        return repair_refused(found);
+        return inner::repair_refused(found);
     }
     let t = crc32::inner::table();
     inner::store_repair(&t, img, state, stage);
-    RepairStep::Next(state.onward())
+    RepairStep::Next(inner::onward_repair(state))
 }

@@ -157,7 +157,7 @@ module _ (xs : List ℕ) (b : ℕ) (h : Header) where
       let p = backup-tells e in
       rw (p .0, p .1) (first-at xs b l (l * b) h (p .2) n)
 
-  -- what an accepted backup tells: its block is never refused by 2, so 2 is the primary's alone
+  -- an accepted backup names the last whole block as its own
   pub backup-own : backupByUefi xs b ≡ accepted h → h .«current_lba» .0 ≡ (length xs - b) / b
   backup-own e = let l : ℕ = (length xs - b) / b in accepted-tells xs b l (l * b) h (backup-tells e .2) .own
 

@@ -1,4 +1,4 @@
--- What the definitions say at the edges: each point of document 02, 9/13, that could be read another way. No contract cites this file. Assumes nothing.
+-- What the definitions say at the edges: four points of document 02, 9/13, that could be read another way, and six sizes. No contract cites this file. Assumes nothing.
 use mathlib.Core.Path.{_≡_, refl, sym, ap, _∙_}
 use mathlib.Core.Bool.{true, false, not}
 use mathlib.Core.List.{List}

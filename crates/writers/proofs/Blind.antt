@@ -20,7 +20,7 @@ use Rattle.ground.specs.Ground.{Run}
 use Rattle.ground.specs.Answers.{Rows, groundCheck, settleRows}
 use Rattle.card.specs.Calls.{putCheck, usedCheck, payloadCheck}
 use Rattle.reader.specs.Reader.{readerCheck, readerSlotCheck, readerRowCheck}
-use Rattle.writers.specs.Agree.{Agree, Same}
+use Rattle.writers.specs.Agree.{Watched, AgreeOn, SameOn}
 use Rattle.writers.proofs.Stores.{agree-tables}
 
 -- ---- no room
@@ -98,27 +98,27 @@ pub settle-answer : {A : Type 0} (w : Why) (v : A) (old new : List ℕ) → sett
 unfolding settle
 settle-answer w v old new = refl
 
-pub agree-settle : {B n : ℕ} {A C : Type 0} (w x : Why) (v : A) (u : C) {xs ys new new′ : List ℕ} → w ≡ x → Agree B n xs ys → (w .number ≡ 0 → Agree B n new new′)
-    → Agree B n (settle w v xs new .image) (settle x u ys new′ .image)
+pub agree-settle : {W : ℕ → Type 0} {n : ℕ} {A C : Type 0} (w x : Why) (v : A) (u : C) {xs ys new new′ : List ℕ} → w ≡ x → AgreeOn W n xs ys → (w .number ≡ 0 → AgreeOn W n new new′)
+    → AgreeOn W n (settle w v xs new .image) (settle x u ys new′ .image)
 unfolding settle
-agree-settle {B} {n} w x v u {xs} {ys} {new} {new′} e a h = by (w .number) (x .number) (number-of e) h
+agree-settle {W} {n} w x v u {xs} {ys} {new} {new′} e a h = by (w .number) (x .number) (number-of e) h
   where
-    by : (k j : ℕ) → k ≡ j → (k ≡ 0 → Agree B n new new′) → Agree B n (ifZero k new xs) (ifZero j new′ ys)
+    by : (k j : ℕ) → k ≡ j → (k ≡ 0 → AgreeOn W n new new′) → AgreeOn W n (ifZero k new xs) (ifZero j new′ ys)
     by zero zero q f = f refl
     by zero (suc j) q f = absurd (omega arith)
     by (suc k) zero q f = absurd (omega arith)
     by (suc k) (suc j) q f = a
 
 -- by a test that does not look at the images
-pub same-settle : {B n : ℕ} {A : Type 0} (w : Why) (v : A) {xs ys new new′ : List ℕ} → Agree B n xs ys → (w .number ≡ 0 → Agree B n new new′) → Same B n (settle w v xs new) (settle w v ys new′)
+pub same-settle : {W : ℕ → Type 0} {n : ℕ} {A : Type 0} (w : Why) (v : A) {xs ys new new′ : List ℕ} → AgreeOn W n xs ys → (w .number ≡ 0 → AgreeOn W n new new′) → SameOn W n (settle w v xs new) (settle w v ys new′)
 same-settle w v a h = record { answer = settle-answer w v _ _ ∙ sym (settle-answer w v _ _); images = agree-settle w w v v refl a h }
 
-module _ {B n : ℕ} {xs ys : List ℕ} (a : Agree B n xs ys) where
+module _ {W : ℕ → Type 0} {B n : ℕ} (sub : (i : ℕ) → Watched B n i → W i) {xs ys : List ℕ} (a : AgreeOn W n xs ys) where
   by-room : {X : Type 0} → (roomCheck B n .number ≡ 0 → X) → (NoRoom B n → X) → X
   by-room f g = by-test (eqb (roomCheck B n .number) 0) (λ e. f (eqb-true _ _ e)) (λ e. g (eqb-false _ _ e))
 
   one-tables : roomCheck B n .number ≡ 0 → tablesAt B n xs ≡ tablesAt B n ys
-  one-tables h = agree-tables (room-ok B n h) a
+  one-tables h = agree-tables (room-ok B n h) sub a
 
   pub one-check : (g : Tables → Why) → Late B n g → g (tablesAt B n xs) ≡ g (tablesAt B n ys)
   one-check g l = by-room (λ h. ap g (one-tables h)) (λ q. l q (tablesAt B n xs) ∙ sym (l q (tablesAt B n ys)))
@@ -145,8 +145,8 @@ module _ {B n : ℕ} {xs ys : List ℕ} (a : Agree B n xs ys) where
 
   -- a call that stores what it makes of the tables
   pub stores : {A : Type 0} (g : Tables → Why) (v : Tables → A) (new : Tables → List ℕ → List ℕ) → Late B n g
-      → (roomCheck B n .number ≡ 0 → (t : Tables) → Agree B n (new t xs) (new t ys))
-      → Same B n (settle (g (tablesAt B n xs)) (v (tablesAt B n xs)) xs (new (tablesAt B n xs) xs)) (settle (g (tablesAt B n ys)) (v (tablesAt B n ys)) ys (new (tablesAt B n ys) ys))
+      → (roomCheck B n .number ≡ 0 → (t : Tables) → AgreeOn W n (new t xs) (new t ys))
+      → SameOn W n (settle (g (tablesAt B n xs)) (v (tablesAt B n xs)) xs (new (tablesAt B n xs) xs)) (settle (g (tablesAt B n ys)) (v (tablesAt B n ys)) ys (new (tablesAt B n ys) ys))
   stores g v new l k =
       record {
         answer = settle-answer _ _ _ _ ∙ one-answer judged judged-blind g v l ∙ sym (settle-answer _ _ _ _);
@@ -154,7 +154,7 @@ module _ {B n : ℕ} {xs ys : List ℕ} (a : Agree B n xs ys) where
       }
 
   -- at the images' own lengths
-  pub at-lengths : {A : Type 0} (o : ℕ → List ℕ → Outcome A) → Same B n (o n xs) (o n ys) → Same B n (o (length xs) xs) (o (length ys) ys)
+  pub at-lengths : {A : Type 0} (o : ℕ → List ℕ → Outcome A) → SameOn W n (o n xs) (o n ys) → SameOn W n (o (length xs) xs) (o (length ys) ys)
   at-lengths o q =
-      subst (λ (m : ℕ). Same B n (o m xs) (o (length ys) ys)) (sym (a .left))
-      (subst (λ (m : ℕ). Same B n (o n xs) (o m ys)) (sym (a .right)) q)
+      subst (λ (m : ℕ). SameOn W n (o m xs) (o (length ys) ys)) (sym (a .left))
+      (subst (λ (m : ℕ). SameOn W n (o n xs) (o m ys)) (sym (a .right)) q)

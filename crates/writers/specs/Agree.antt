@@ -12,12 +12,19 @@ use Rattle.tables.specs.Places.{blocks, firstUsable, lastUsable}
 abbrev pub Watched : ℕ → ℕ → ℕ → Type 0
 Watched B n i = ((B ≤ i) × (i < firstUsable B * B)) ⊎ (((lastUsable B n + 1) * B ≤ i) × (i < blocks B n * B))
 
-pub record Agree (B n : ℕ) (xs ys : List ℕ) : Type 0 where
+-- two images of n bytes have the same byte wherever W watches
+pub record AgreeOn (W : ℕ → Type 0) (n : ℕ) (xs ys : List ℕ) : Type 0 where
   pub left : length xs ≡ n
   pub right : length ys ≡ n
-  pub bytes : (i : ℕ) → Watched B n i → getD xs i 0 ≡ getD ys i 0
+  pub bytes : (i : ℕ) → W i → getD xs i 0 ≡ getD ys i 0
+
+abbrev pub Agree : ℕ → ℕ → List ℕ → List ℕ → Type 0
+Agree B n xs ys = AgreeOn (Watched B n) n xs ys
 
 -- one answer, and images that agree
-pub record Same {A : Type 0} (B n : ℕ) (o p : Outcome A) : Type 0 where
+pub record SameOn {A : Type 0} (W : ℕ → Type 0) (n : ℕ) (o p : Outcome A) : Type 0 where
   pub answer : o .answer ≡ p .answer
-  pub images : Agree B n (o .image) (p .image)
+  pub images : AgreeOn W n (o .image) (p .image)
+
+abbrev pub Same : {A : Type 0} → ℕ → ℕ → Outcome A → Outcome A → Type 0
+Same B n o p = SameOn (Watched B n) n o p

@@ -1,10 +1,11 @@
--- The calls as values, each with its answer and the image that it leaves, and lists of them. From document 02, 8/13: all but lay, which makes the table. Each is the definition that
+-- The calls as values, each with its answer and the image that it leaves, and lists of them. From document 02, 8/13: all but lay, which makes the table, and the read of a payload, which shows the tiles. Each is the definition that
 -- the call's contract cites, of a stage its answer before it is told as a struct; `listing` is the list of all entries, by which the three ways of asking one by one are known. An answer is all that a caller gets: the number with its slot and place, the state for the next stage, and what lent rows and bytes then hold. Assumes nothing.
 use mathlib.Core.Path.{_≡_}
 use mathlib.Core.Bool.{Bool, true, false}
 use mathlib.Core.List.{List, [], _∷_}
 use Prim.Native.Nat.{ℕ, zero, suc, _/_}
 use lib.ListN.{length}
+use Rattle.units.specs.declared.BytePlace.{BytePlace}
 use Rattle.units.specs.Answer.{Answer, Outcome, gives}
 use Rattle.partition.specs.declared.Partition.{Partition}
 use Rattle.partition.specs.Array.{Found}
@@ -16,7 +17,7 @@ use Rattle.tables.specs.Check.{checkAnswer}
 use Rattle.listing.specs.Listing.{Listed, countAnswer, nextAnswer, slotRead, nthAnswer, entriesAnswer}
 use Rattle.listing.specs.LentRow.{listingRead}
 use Rattle.ground.specs.Answers.{Rows, groundOutcome}
-use Rattle.card.specs.Calls.{putOutcome, clearOutcome, payloadOutcome}
+use Rattle.card.specs.Calls.{putOutcome, clearOutcome, payloadOutcome, placeAnswer}
 use Rattle.history.specs.History.{taken}
 use Rattle.slot_map.specs.Map.{madeAnswer, marked}
 use Rattle.reader.specs.Reader.{sideAnswer, readerCount, readerNext, readerSlot, readerRead}
@@ -56,6 +57,8 @@ pub data Call : Type 0 where
   -- repair by its stages, a later one with whatever state
   startRepair : Call
   repair : (k : ℕ) (r : Repair) → Call
+  -- where m bytes at place p of a slot's partition stand
+  placing : (s p m : ℕ) → Call
 
 -- an answer of whatever call
 pub data Reply : Type 0 where
@@ -72,6 +75,7 @@ pub data Reply : Type 0 where
   update : Answer Update → Reply
   side : Answer Side → Reply
   mended : Answer Repair → Reply
+  place : Answer BytePlace → Reply
 
 -- a call that changes the image, one that reads it, and one that carries a map
 abbrev pub said : {A : Type 0} → (A → Reply) → Outcome A → Outcome Reply
@@ -110,6 +114,7 @@ call B (readerIntoRow r) xs = told row (rowOutcome (readerRead B xs (length r)) 
 call B (readerIntoBytes out) xs = told bytes (bytesOutcome (readerRead B xs (length out / 136)) out) xs
 call B startRepair xs = said mended (staged.startRepair B xs)
 call B (repair k r) xs = said mended (staged.nextRepair B xs k r)
+call B (placing s p m) xs = told place (placeAnswer B xs s p m) xs
 
 -- the answers of a list of calls, and the image after them
 unfoldable pub run : ℕ → List Call → List ℕ → Outcome (List Reply)

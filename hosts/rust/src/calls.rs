@@ -52,6 +52,8 @@ pub struct Card<'image> {
 impl<'image> Card<'image> {
     /// Lays an empty card: the protective MBR, and both tables with 128 unused slots. No other byte changes.
     ///
+    /// # Errors
+    ///
     /// Refused by 8, 10.
     pub fn lay(image: &'image mut [u8], block_size: BlockSize, guid: Guid) -> Result<Card<'image>, Refused> {
         // SAFETY: the pointer and the length are those of one slice that only this call has; a slice's pointer is not null, also where it is empty.
@@ -62,6 +64,8 @@ impl<'image> Card<'image> {
 
     /// Takes an image that is a whole card already, which [`check`] decides.
     ///
+    /// # Errors
+    ///
     /// Refused by 8, 10; 4, 5, 16, 6 of the front table; 4, 5, 16, 6 of the back table; 17; 16.
     pub fn open(image: &'image mut [u8], block_size: BlockSize) -> Result<Card<'image>, Refused> {
         check(image, block_size)?;
@@ -69,6 +73,8 @@ impl<'image> Card<'image> {
     }
 
     /// Puts a record into a slot of both tables, in place of what the slot held. No byte of a partition changes.
+    ///
+    /// # Errors
     ///
     /// Refused as [`open`](Card::open) is, then by 18, 19, 20, 21, 22, 25, 28. A record that was read with reserved flags is refused by 28 until they are taken out.
     pub fn put(&mut self, slot: u32, record: &Record) -> Result<(), Refused> {
@@ -80,6 +86,8 @@ impl<'image> Card<'image> {
 
     /// Clears a slot in both tables. An unused one is accepted. The partition's bytes stay on the card: clearing does not wipe.
     ///
+    /// # Errors
+    ///
     /// Refused as [`open`](Card::open) is, then by 18.
     pub fn clear(&mut self, slot: u32) -> Result<(), Refused> {
         let (image, b) = (&mut *self.image, self.block_size.bytes());
@@ -90,6 +98,8 @@ impl<'image> Card<'image> {
 
     /// Writes bytes into a slot's partition, from a place on that counts from the partition's first byte, and says how many were written: all of them.
     ///
+    /// # Errors
+    ///
     /// Refused as [`open`](Card::open) is, then by 18, 23, 24.
     pub fn write_payload(&mut self, slot: u32, place: usize, bytes: &[u8]) -> Result<usize, Refused> {
         let (image, b) = (&mut *self.image, self.block_size.bytes());
@@ -99,22 +109,47 @@ impl<'image> Card<'image> {
         Ok(answer.bytes as usize)
     }
 
+    /// Reads bytes of a slot's partition: see [`read_payload`].
+    ///
+    /// # Errors
+    ///
+    /// Refused as [`read_payload`] is.
+    pub fn read_payload(&self, slot: u32, place: usize, out: &mut [u8]) -> Result<usize, Refused> {
+        read_payload(self.image, self.block_size, slot, place, out)
+    }
+
     /// What a slot holds, or `None` where it is unused: see [`get`].
+    ///
+    /// # Errors
+    ///
+    /// Refused as [`get`] is.
     pub fn get(&self, slot: u32) -> Result<Option<Record>, Refused> {
         get(self.image, self.block_size, slot)
     }
 
     /// The used slots, ascending, each with its record: see [`list`].
+    ///
+    /// # Errors
+    ///
+    /// Refused as [`list`] is.
     pub fn list(&self) -> Result<Listing, Refused> {
         list(self.image, self.block_size)
     }
 
     /// The free ground, ascending: see [`free_runs`].
+    ///
+    /// # Errors
+    ///
+    /// Refused as [`free_runs`] is.
     pub fn free_runs(&self) -> Result<Vec<RangeInclusive<u64>>, Refused> {
         free_runs(self.image, self.block_size)
     }
 
     /// Runs the card check again: see [`check`].
+    ///
+    /// # Errors
+    ///
+    /// Refused as [`check`] is.
     pub fn check(&self) -> Result<(), Refused> {
         check(self.image, self.block_size)
     }
@@ -139,6 +174,8 @@ impl fmt::Debug for Card<'_> {
 /// The card check, on an image that is only read: both tables are whole, laid out as [`Card::lay`] lays them, and say the same; each entry is unused
 /// or has usable blocks and a partition GUID of its own. Block 0 is not read.
 ///
+/// # Errors
+///
 /// Refused by 8, 10; 4, 5, 16, 6 of the front table; 4, 5, 16, 6 of the back table; 17; 16.
 pub fn check(image: &[u8], block_size: BlockSize) -> Result<(), Refused> {
     // SAFETY: the pointer and the length are those of one slice, which is only read; a slice's pointer is not null, also where it is empty.
@@ -147,6 +184,8 @@ pub fn check(image: &[u8], block_size: BlockSize) -> Result<(), Refused> {
 }
 
 /// What a slot of a card holds, or `None` where it is unused.
+///
+/// # Errors
 ///
 /// Refused as [`check`] is, then by 18.
 pub fn get(image: &[u8], block_size: BlockSize, slot: u32) -> Result<Option<Record>, Refused> {
@@ -157,6 +196,8 @@ pub fn get(image: &[u8], block_size: BlockSize, slot: u32) -> Result<Option<Reco
 }
 
 /// The used slots of a card, ascending, each with its record.
+///
+/// # Errors
 ///
 /// Refused as [`check`] is.
 pub fn list(image: &[u8], block_size: BlockSize) -> Result<Listing, Refused> {
@@ -183,14 +224,48 @@ pub(crate) fn so_many_rows(room: u32, fill: impl FnOnce(*mut u8, usize) -> Resul
 
 /// The free ground of a card: the maximal runs of usable blocks that no used slot has, ascending, each from its first block to its last.
 ///
+/// # Errors
+///
 /// Refused as [`check`] is.
 pub fn free_runs(image: &[u8], block_size: BlockSize) -> Result<Vec<RangeInclusive<u64>>, Refused> {
+    runs(|starts, lengths, room| {
+        // SAFETY: each pointer and length are those of one slice, not null also where it is empty; both rows are new, so they overlap neither each other nor `image`.
+        let answer = unsafe { ffi::card_free_runs(image.as_ptr(), image.len(), block_size.bytes(), starts, room, lengths, room) };
+        accepted(answer.number, 0, answer.place, answer.differs)?;
+        Ok(answer.count)
+    })
+}
+
+/// Lends two new rows for all runs of a card to a call, as two pointers and their length in numbers, which says how many places it filled.
+pub(crate) fn runs(fill: impl FnOnce(*mut u64, *mut u64, usize) -> Result<u32, Refused>) -> Result<Vec<RangeInclusive<u64>>, Refused> {
     let (mut starts, mut lengths) = ([0; RUNS], [0; RUNS]);
-    let (b, first, count) = (block_size.bytes(), starts.as_mut_ptr(), lengths.as_mut_ptr());
-    // SAFETY: each pointer and length are those of one slice, not null also where it is empty; both rows are new, so they overlap neither each other nor `image`.
-    let answer = unsafe { ffi::card_free_runs(image.as_ptr(), image.len(), b, first, RUNS, count, RUNS) };
+    let count = fill(starts.as_mut_ptr(), lengths.as_mut_ptr(), RUNS)?;
+    Ok(starts.into_iter().zip(lengths).take(count as usize).map(|(first, blocks)| first..=first + (blocks - 1)).collect())
+}
+
+/// Where `count` bytes at a place of a slot's partition stand in a card, counted from the card's first byte: that is where [`Card::write_payload`] would store them.
+///
+/// # Errors
+///
+/// Refused as [`check`] is, then by 18, 23, 24.
+pub fn payload_place(image: &[u8], block_size: BlockSize, slot: u32, place: usize, count: usize) -> Result<u64, Refused> {
+    // SAFETY: the pointer and the length are those of one slice, which is only read; a slice's pointer is not null, also where it is empty.
+    let spot = unsafe { ffi::card_payload_place(image.as_ptr(), image.len(), block_size.bytes(), slot, place, count) };
+    accepted(spot.number, 0, spot.place, spot.differs)?;
+    Ok(spot.at)
+}
+
+/// Reads bytes of a slot's partition, from a place on that counts from the partition's first byte, and says how many were read: `out` is filled.
+///
+/// # Errors
+///
+/// Refused as [`check`] is, then by 18, 23, 24. A refused call changes no byte of `out`.
+pub fn read_payload(image: &[u8], block_size: BlockSize, slot: u32, place: usize, out: &mut [u8]) -> Result<usize, Refused> {
+    let (b, bytes, room) = (block_size.bytes(), out.as_mut_ptr(), out.len());
+    // SAFETY: each pointer and length are those of one slice, not null also where it is empty; `out` is lent to this call alone, so `image` is not inside it.
+    let answer = unsafe { ffi::card_read_payload(image.as_ptr(), image.len(), b, slot, place, bytes, room) };
     accepted(answer.number, 0, answer.place, answer.differs)?;
-    Ok(starts.into_iter().zip(lengths).take(answer.count as usize).map(|(first, blocks)| first..=first + (blocks - 1)).collect())
+    Ok(answer.bytes as usize)
 }
 
 /// The sum of nothing, from which [`crc32_next`] starts a new sum.

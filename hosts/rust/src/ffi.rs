@@ -1,6 +1,41 @@
 //! The C interface of libcard, whole: every struct and every function of include/card.h, by their C names. That header says what they mean.
 #![allow(missing_docs, non_camel_case_types)]
-use core::mem::{offset_of, size_of};
+use core::mem::size_of;
+
+/// The bytes of a value, or the first of them.
+#[derive(Clone, Copy)]
+#[repr(C)]
+union Bytes<T: Copy, const N: usize> {
+    value: T,
+    bytes: [u8; N],
+}
+
+/// Bytes that hold each its own place, divided by a number.
+// Compilers before 1.69 do not count a use in a nameless constant.
+#[allow(dead_code)]
+const fn counted<const N: usize>(by: usize) -> [u8; N] {
+    let mut bytes = [0; N];
+    let mut place = 0;
+    while place < N {
+        bytes[place] = (place / by) as u8;
+        place += 1;
+    }
+    bytes
+}
+
+/// The place of a field in a struct, as the compiler has it: if every byte of the struct holds its own place, so does the field's first byte. The place's low and high byte are
+/// read one after the other. (`offset_of` says the same, but Rust has it since 1.77 only.)
+macro_rules! place_of {
+    ($name:ty, $size:literal, $field:ident, $type:ty) => {{
+        // SAFETY: structs and fields are of numbers alone, so that any bytes are one, and no field begins with a gap.
+        let (low, high) = unsafe {
+            let low = Bytes::<$name, $size> { bytes: counted(1) }.value.$field;
+            let high = Bytes::<$name, $size> { bytes: counted(256) }.value.$field;
+            (Bytes::<$type, 1> { value: low }.bytes[0], Bytes::<$type, 1> { value: high }.bytes[0])
+        };
+        low as usize + high as usize * 256
+    }};
+}
 
 /// Declares structs of the header: each with its size, and each field behind its place. Both are asserted while compiling, and kept for the test below.
 macro_rules! structs {
@@ -10,7 +45,7 @@ macro_rules! structs {
             #[derive(Clone, Copy, Debug, PartialEq, Eq)]
             pub struct $name { $(pub $field: $type),* }
             const _: () = assert!(size_of::<$name>() == $size);
-            $(const _: () = assert!(offset_of!($name, $field) == $place);)*
+            $(const _: () = assert!(place_of!($name, $size, $field, $type) == $place);)*
         )*
 
         /// Name and size of each struct; place, name and type of each of its fields.
@@ -76,6 +111,7 @@ structs! {
     card_update_step 192 { 0 number: u32, 4 slot: u32, 8 place: u32, 12 differs: u32, 16 state: card_update }
     card_repair 48 { 0 next: u32, 4 back: u8, 8 b: u64, 16 len: usize, 24 guid: gpt_guid, 40 parts: u32 }
     card_repair_step 64 { 0 number: u32, 4 slot: u32, 8 place: u32, 12 differs: u32, 16 state: card_repair }
+    card_spot 24 { 0 number: u32, 4 place: u32, 8 differs: u32, 16 at: u64 }
     gpt_header_read 96 { 0 number: u32, 8 header: gpt_header }
     gpt_block 16 { 0 number: u32, 8 lba: u64 }
     gpt_sum 8 { 0 number: u32, 4 sum: u32 }
@@ -122,6 +158,30 @@ functions! {
     fn card_next_stage(img: *mut u8, img_len: usize, b: u64, stage: u32, state: card_update) -> card_update_step;
     fn card_start_repair(img: *mut u8, img_len: usize, b: u64) -> card_repair_step;
     fn card_next_repair(img: *mut u8, img_len: usize, b: u64, stage: u32, state: card_repair) -> card_repair_step;
+    fn card_window_lay(head: *mut u8, head_len: usize, tail: *mut u8, tail_len: usize, blocks: u64, b: u64, guid: gpt_guid) -> card_answer;
+    fn card_window_check(head: *const u8, head_len: usize, tail: *const u8, tail_len: usize, blocks: u64, b: u64) -> card_answer;
+    fn card_window_put(head: *mut u8, head_len: usize, tail: *mut u8, tail_len: usize, blocks: u64, b: u64, slot: u32, partition: gpt_partition) -> card_answer;
+    fn card_window_clear(head: *mut u8, head_len: usize, tail: *mut u8, tail_len: usize, blocks: u64, b: u64, slot: u32) -> card_answer;
+    fn card_window_count_used(head: *const u8, head_len: usize, tail: *const u8, tail_len: usize, blocks: u64, b: u64) -> card_count;
+    fn card_window_next_used(head: *const u8, head_len: usize, tail: *const u8, tail_len: usize, blocks: u64, b: u64, after: u32) -> card_next;
+    fn card_window_read_slot(head: *const u8, head_len: usize, tail: *const u8, tail_len: usize, blocks: u64, b: u64, slot: u32) -> card_slot_read;
+    fn card_window_nth_used(head: *const u8, head_len: usize, tail: *const u8, tail_len: usize, blocks: u64, b: u64, k: u32) -> card_used_read;
+    fn card_window_list(head: *const u8, head_len: usize, tail: *const u8, tail_len: usize, blocks: u64, b: u64, out: *mut u8, out_len: usize) -> card_count;
+    fn card_window_free_runs(head: *const u8, head_len: usize, tail: *const u8, tail_len: usize, blocks: u64, b: u64, starts: *mut u64, starts_len: usize, lengths: *mut u64, lengths_len: usize) -> card_count;
+    fn card_window_map_make(head: *const u8, head_len: usize, tail: *const u8, tail_len: usize, blocks: u64, b: u64) -> card_map_made;
+    fn card_window_reader_copy(head: *const u8, head_len: usize, tail: *const u8, tail_len: usize, blocks: u64, b: u64) -> card_copy;
+    fn card_window_reader_count(head: *const u8, head_len: usize, tail: *const u8, tail_len: usize, blocks: u64, b: u64) -> gpt_count;
+    fn card_window_reader_next(head: *const u8, head_len: usize, tail: *const u8, tail_len: usize, blocks: u64, b: u64, after: u32) -> gpt_next;
+    fn card_window_reader_slot(head: *const u8, head_len: usize, tail: *const u8, tail_len: usize, blocks: u64, b: u64, slot: u32) -> gpt_slot_read;
+    fn card_window_reader_list(head: *const u8, head_len: usize, tail: *const u8, tail_len: usize, blocks: u64, b: u64, out: *mut u8, out_len: usize) -> gpt_count;
+    fn card_window_start_put(head: *mut u8, head_len: usize, tail: *mut u8, tail_len: usize, blocks: u64, b: u64, slot: u32, partition: gpt_partition) -> card_update_step;
+    fn card_window_start_clear(head: *mut u8, head_len: usize, tail: *mut u8, tail_len: usize, blocks: u64, b: u64, slot: u32) -> card_update_step;
+    fn card_window_next_stage(head: *mut u8, head_len: usize, tail: *mut u8, tail_len: usize, blocks: u64, b: u64, stage: u32, state: card_update) -> card_update_step;
+    fn card_window_start_repair(head: *mut u8, head_len: usize, tail: *mut u8, tail_len: usize, blocks: u64, b: u64) -> card_repair_step;
+    fn card_window_next_repair(head: *mut u8, head_len: usize, tail: *mut u8, tail_len: usize, blocks: u64, b: u64, stage: u32, state: card_repair) -> card_repair_step;
+    fn card_payload_place(img: *const u8, img_len: usize, b: u64, slot: u32, place: usize, n: usize) -> card_spot;
+    fn card_window_payload_place(head: *const u8, head_len: usize, tail: *const u8, tail_len: usize, blocks: u64, b: u64, slot: u32, place: usize, n: usize) -> card_spot;
+    fn card_read_payload(img: *const u8, img_len: usize, b: u64, slot: u32, place: usize, out: *mut u8, out_len: usize) -> card_stored;
     fn gpt_crc32(bytes: *const u8, bytes_len: usize) -> u32;
     fn gpt_crc32_next(running: u32, bytes: *const u8, bytes_len: usize) -> u32;
     fn gpt_read_primary_header(img: *const u8, img_len: usize, b: u64) -> gpt_header_read;
@@ -258,7 +318,10 @@ mod tests {
     /// Neither this module nor the header has a struct, a field, a number, a type or a function that the other has not.
     #[test]
     fn declarations_are_those_of_the_header() {
-        let Some(header) = crate::repository::header() else { return };
+        let header = match crate::repository::header() {
+            Some(header) => header,
+            None => return,
+        };
         let (here, header) = (declared(), stated(&header));
         let only = |these: &[String], those: &[String]| these.iter().filter(|line| !those.contains(line)).cloned().collect::<Vec<_>>();
         assert_eq!((only(&here, &header), only(&header, &here)), (vec![], vec![]), "only here, and only in include/card.h");

@@ -1,7 +1,7 @@
 //! Cards with a GPT table, as safe Rust over the proved calls of libcard.
 //!
 //! A card is an image of bytes: a protective MBR, a front table, usable blocks, and a back table that says the same as the front one.
-//! A table has 128 slots, counted from 1. [`Card`] lends an image to the calls; nothing is read from or written to a device but by [`tables_of`] and [`Staged::store_on`].
+//! A table has 128 slots, counted from 1. [`Card`] lends an image to the calls; nothing is read from or written to a device but by [`FileCard`], [`tables_of`] and [`Staged::store_on`].
 //!
 //! ```
 //! use card::{BlockSize, Card, Guid, Record};
@@ -20,6 +20,25 @@
 //! # }
 //! ```
 //!
+//! A card in a file or a device need not fit into memory: [`FileCard`] reads and writes the blocks of its tables and the payload's bytes, and nothing else.
+//!
+//! ```
+//! use card::{BlockSize, FileCard, Guid, Record};
+//! # fn main() -> Result<(), Box<dyn std::error::Error>> {
+//! # let path = std::env::temp_dir().join(format!("card-lib-doc-{}", std::process::id()));
+//!
+//! let file = std::fs::File::options().read(true).write(true).create_new(true).open(&path)?;
+//! file.set_len(64 << 30)?;
+//! let mut card = FileCard::lay(file, BlockSize::B512, "5a3f1c20-11e7-4b6d-9c04-0242ac110000".parse()?)?;
+//! let map = Record::new(Guid::BASIC_DATA, "5a3f1c20-11e7-4b6d-9c04-0242ac110001".parse()?, 2048, 67_108_863, "map")?;
+//! card.start_put(1, &map)?.finish()?; // four stages, each stored before the next is made
+//! card.write_payload(1, 20 << 30, b"north ridge")?;
+//! # assert_eq!((card.get(1)?, card.free_runs()?), (Some(map), vec![34..=2047, 67_108_864..=(64 << 21) - 34]));
+//! # std::fs::remove_file(&path)?;
+//! # Ok(())
+//! # }
+//! ```
+//!
 //! Every call takes every image and every number. It ends, and accepts or says by [`Refused`] why it does not, and where the card check refused; a refused call changes no byte of the image.
 //! People pull cards in the middle of an update: a put or a clear that may be cut goes by [`Card::start_put`] and [`Card::start_clear`], see [`Staged`]. A card that
 //! was cut is read by [`reader_list`] and mended by [`start_repair`].
@@ -29,13 +48,14 @@
 //!
 //! A program takes the crate by its path, `card = { path = "../dirozhal/hosts/rust" }`, and needs no registry. The crate links `libcard.a`, which `make lib`
 //! writes, from the folder that the environment names in `CARD_LIB_DIR`, or else from the repository's `target/lib`.
-#![deny(missing_docs, clippy::undocumented_unsafe_blocks)]
+#![deny(missing_docs, clippy::undocumented_unsafe_blocks, clippy::missing_errors_doc)]
 
 #[cfg(not(all(target_arch = "x86_64", target_pointer_width = "64")))]
 compile_error!("libcard is for x86-64");
 
 mod calls;
 pub mod ffi;
+mod files;
 mod guid;
 mod maps;
 mod pulled;
@@ -45,8 +65,10 @@ mod refusal;
 #[path = "../tests/repository/mod.rs"]
 mod repository;
 mod uefi;
+mod windows;
 
-pub use calls::{check, crc32_next, free_runs, get, list, BlockSize, Card, Listing, FRESH, SLOTS};
+pub use calls::{check, crc32_next, free_runs, get, list, payload_place, read_payload, BlockSize, Card, Listing, FRESH, SLOTS};
+pub use files::{Device, FileCard, FileError, FileStaged, SyncBy};
 pub use guid::{Guid, GuidError};
 pub use maps::SlotMap;
 pub use pulled::{reader_copy, reader_get, reader_list, start_repair, tables_of, Staged, Store, Table};

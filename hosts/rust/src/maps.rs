@@ -7,10 +7,12 @@ use crate::{ffi, BlockSize, Card, Record, Refused, SLOTS};
 /// It is a value, made from a card by [`Card::slot_map`] and kept by [`Card::put_mapped`], [`Card::clear_mapped`] and [`Card::put_lowest`]. After any such calls it is
 /// the map that would be made again, as long as nothing else changes the table; a refused call leaves it as it was.
 #[derive(Clone, Copy, Debug, PartialEq, Eq)]
-pub struct SlotMap(ffi::card_slot_map);
+pub struct SlotMap(pub(crate) ffi::card_slot_map);
 
 impl SlotMap {
     /// The map of a card in an image that is only read.
+    ///
+    /// # Errors
     ///
     /// Refused as [`check`](crate::check) is.
     pub fn of(image: &[u8], block_size: BlockSize) -> Result<SlotMap, Refused> {
@@ -21,6 +23,8 @@ impl SlotMap {
     }
 
     /// The lowest free slot.
+    ///
+    /// # Errors
     ///
     /// Refused by 33 where all are used.
     pub fn lowest_free(self) -> Result<u32, Refused> {
@@ -45,11 +49,19 @@ impl SlotMap {
 
 impl Card<'_> {
     /// The slot map of this card: see [`SlotMap::of`].
+    ///
+    /// # Errors
+    ///
+    /// Refused as [`SlotMap::of`] is.
     pub fn slot_map(&self) -> Result<SlotMap, Refused> {
         SlotMap::of(self.image, self.block_size)
     }
 
     /// As [`put`](Card::put), with the slot's bit of a map set.
+    ///
+    /// # Errors
+    ///
+    /// Refused as [`put`](Card::put) is.
     pub fn put_mapped(&mut self, slot: u32, record: &Record, map: &mut SlotMap) -> Result<(), Refused> {
         let (image, b) = (&mut *self.image, self.block_size.bytes());
         // SAFETY: the pointer and the length are those of one slice that only this call has; a slice's pointer is not null, also where it is empty.
@@ -59,6 +71,10 @@ impl Card<'_> {
     }
 
     /// As [`clear`](Card::clear), with the slot's bit of a map cleared.
+    ///
+    /// # Errors
+    ///
+    /// Refused as [`clear`](Card::clear) is.
     pub fn clear_mapped(&mut self, slot: u32, map: &mut SlotMap) -> Result<(), Refused> {
         let (image, b) = (&mut *self.image, self.block_size.bytes());
         // SAFETY: the pointer and the length are those of one slice that only this call has; a slice's pointer is not null, also where it is empty.
@@ -68,6 +84,8 @@ impl Card<'_> {
     }
 
     /// Puts a record into the lowest slot that is free in a map, and says which.
+    ///
+    /// # Errors
     ///
     /// Refused by 33, then as [`put`](Card::put) is.
     pub fn put_lowest(&mut self, record: &Record, map: &mut SlotMap) -> Result<u32, Refused> {

@@ -6,7 +6,7 @@ use std::io::{self, Seek, SeekFrom};
 use std::{fmt, fs::File, os::unix::fs::FileExt};
 
 /// The bytes of a table's array.
-const ARRAY: u64 = 16384;
+pub(crate) const ARRAY: u64 = 16384;
 
 /// One of a card's two tables.
 #[derive(Clone, Copy, Debug, PartialEq, Eq, Hash)]
@@ -19,6 +19,8 @@ pub enum Table {
 
 /// The table that the reader takes: the front one if its header, layout, array and entries pass, else the back one by the same tests.
 ///
+/// # Errors
+///
 /// Refused by 8, 10, 27.
 pub fn reader_copy(image: &[u8], block_size: BlockSize) -> Result<Table, Refused> {
     // SAFETY: the pointer and the length are those of one slice, which is only read; a slice's pointer is not null, also where it is empty.
@@ -28,6 +30,8 @@ pub fn reader_copy(image: &[u8], block_size: BlockSize) -> Result<Table, Refused
 }
 
 /// What a slot of that table holds, or `None` where it is unused.
+///
+/// # Errors
 ///
 /// Refused by 8, 10, 27, 18.
 pub fn reader_get(image: &[u8], block_size: BlockSize, slot: u32) -> Result<Option<Record>, Refused> {
@@ -39,6 +43,8 @@ pub fn reader_get(image: &[u8], block_size: BlockSize, slot: u32) -> Result<Opti
 
 /// The used slots of that table, ascending, each with its record.
 ///
+/// # Errors
+///
 /// Refused by 8, 10, 27.
 pub fn reader_list(image: &[u8], block_size: BlockSize) -> Result<Listing, Refused> {
     rows(|out, out_len| {
@@ -49,10 +55,44 @@ pub fn reader_list(image: &[u8], block_size: BlockSize) -> Result<Listing, Refus
     })
 }
 
-/// What stage one fixed.
-enum State {
+/// What stage one fixed, and which stage is the next.
+pub(crate) enum State {
     Update(ffi::card_update),
     Repair(ffi::card_repair),
+}
+
+impl State {
+    /// The stage that was made last, counted from 1.
+    pub fn stage(&self) -> u32 {
+        match self {
+            State::Update(update) => update.next - 1,
+            State::Repair(repair) => repair.next - 1,
+        }
+    }
+
+    /// How many stages there are.
+    pub fn stages(&self, block_size: BlockSize) -> u32 {
+        match self {
+            State::Update(_) => 4,
+            State::Repair(_) => (ARRAY / block_size.bytes()) as u32 + 2,
+        }
+    }
+
+    /// The block of a card of so many blocks that the last stage changed.
+    pub fn block(&self, block_size: BlockSize, blocks: u64) -> u64 {
+        let (b, stage) = (block_size.bytes(), self.stage());
+        let last = blocks - 1;
+        let (front, header, array) = match self {
+            State::Update(update) => (stage > 2, stage % 2 == 0, u64::from(update.slot - 1) * 128 / b),
+            State::Repair(repair) => (repair.back != 0, stage == 1 || stage == self.stages(block_size), u64::from(stage).saturating_sub(2)),
+        };
+        match (front, header) {
+            (true, true) => 1,
+            (true, false) => 2 + array,
+            (false, true) => last,
+            (false, false) => last - ARRAY / b + array,
+        }
+    }
 }
 
 /// A put, a clear or a repair between its stages, with the first one made: see [`Card::start_put`], [`Card::start_clear`] and [`start_repair`].
@@ -74,6 +114,8 @@ pub struct Staged<'card> {
 impl Card<'_> {
     /// Stage one of a [`put`](Card::put).
     ///
+    /// # Errors
+    ///
     /// Refused as [`put`](Card::put) is.
     pub fn start_put(&mut self, slot: u32, record: &Record) -> Result<Staged<'_>, Refused> {
         let (image, block_size) = (&mut *self.image, self.block_size);
@@ -84,6 +126,8 @@ impl Card<'_> {
     }
 
     /// Stage one of a [`clear`](Card::clear).
+    ///
+    /// # Errors
     ///
     /// Refused as [`clear`](Card::clear) is.
     pub fn start_clear(&mut self, slot: u32) -> Result<Staged<'_>, Refused> {
@@ -99,6 +143,8 @@ impl Card<'_> {
 ///
 /// Repair only what [`check`](crate::check) refuses: of a whole card a repair first destroys the back header, and a cut then leaves a card that every plain call refuses.
 ///
+/// # Errors
+///
 /// Refused by 8, 10, 27.
 pub fn start_repair(image: &mut [u8], block_size: BlockSize) -> Result<Staged<'_>, Refused> {
     // SAFETY: the pointer and the length are those of one slice that only this call has; a slice's pointer is not null, also where it is empty.
@@ -110,34 +156,17 @@ pub fn start_repair(image: &mut [u8], block_size: BlockSize) -> Result<Staged<'_
 impl<'card> Staged<'card> {
     /// The stage that was made last, counted from 1.
     pub fn stage(&self) -> u32 {
-        match &self.state {
-            State::Update(update) => update.next - 1,
-            State::Repair(repair) => repair.next - 1,
-        }
+        self.state.stage()
     }
 
     /// How many stages there are: four, or of a repair 34 with blocks of 512 bytes and 6 with 4,096.
     pub fn stages(&self) -> u32 {
-        match self.state {
-            State::Update(_) => 4,
-            State::Repair(_) => (ARRAY / self.block_size.bytes()) as u32 + 2,
-        }
+        self.state.stages(self.block_size)
     }
 
     /// The block that the last stage changed.
     fn block(&self) -> u64 {
-        let (b, stage) = (self.block_size.bytes(), self.stage());
-        let last = self.image.len() as u64 / b - 1;
-        let (front, header, array) = match &self.state {
-            State::Update(update) => (stage > 2, stage % 2 == 0, u64::from(update.slot - 1) * 128 / b),
-            State::Repair(repair) => (repair.back != 0, stage == 1 || stage == self.stages(), u64::from(stage).saturating_sub(2)),
-        };
-        match (front, header) {
-            (true, true) => 1,
-            (true, false) => 2 + array,
-            (false, true) => last,
-            (false, false) => last - ARRAY / b + array,
-        }
+        self.state.block(self.block_size, self.image.len() as u64 / self.block_size.bytes())
     }
 
     /// Where the block starts that the last stage changed.
@@ -174,7 +203,11 @@ impl<'card> Staged<'card> {
         Some(Staged { image, block_size, state })
     }
 
-    /// Carries out all stages on a device: it stores each block before the next stage is made. Where the device fails, the card is one that was pulled.
+    /// Carries out all stages on a device: it stores each block before the next stage is made.
+    ///
+    /// # Errors
+    ///
+    /// What the device fails by. The card is one that was pulled.
     pub fn store_on(self, device: &mut impl Store) -> io::Result<()> {
         let mut step = Some(self);
         while let Some(staged) = step {
@@ -194,6 +227,10 @@ impl fmt::Debug for Staged<'_> {
 /// Where a card's blocks are stored.
 pub trait Store {
     /// Stores bytes from a place on, and comes back once the device has them.
+    ///
+    /// # Errors
+    ///
+    /// What the device fails by.
     fn store(&mut self, place: u64, bytes: &[u8]) -> io::Result<()>;
 }
 
@@ -205,7 +242,8 @@ impl Store for File {
     }
 }
 
-/// The tables of a card in a file or a block device, as an image of its length. Between the tables it has zeros, which no call but one on payload looks at.
+/// The tables of a card in a file or a block device, as an image of its length. Between the tables it has zeros, which no call but one on payload looks at. A card that is larger than
+/// memory is a [`FileCard`](crate::FileCard)'s matter.
 ///
 /// ```
 /// use card::{reader_list, start_repair, tables_of, BlockSize::B512, Card, Guid, Record};
@@ -228,6 +266,10 @@ impl Store for File {
 /// # Ok(())
 /// # }
 /// ```
+///
+/// # Errors
+///
+/// What the file fails by.
 pub fn tables_of(mut file: &File, block_size: BlockSize) -> io::Result<Vec<u8>> {
     let b = block_size.bytes() as usize;
     let table = b + ARRAY as usize;

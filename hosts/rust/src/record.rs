@@ -18,6 +18,10 @@ impl Name {
     pub const EMPTY: Name = Name([0; Name::UNITS]);
 
     /// The name that reads back as this text.
+    ///
+    /// # Errors
+    ///
+    /// [`NameError`]: it has too many units, or a zero.
     pub fn new(text: &str) -> Result<Name, NameError> {
         let mut name = Name::EMPTY;
         let mut units = 0;
@@ -145,6 +149,8 @@ impl Flags {
 
     /// The 64 bits. Those of flags that were read are the bits that stood there.
     ///
+    /// # Errors
+    ///
     /// Refused by 28 if the reserved part needs more than 45 bits.
     pub fn bits(self) -> Result<u64, Refusal> {
         // SAFETY: the call takes and gives numbers alone, and each yes/no is 0 or 1.
@@ -182,6 +188,10 @@ pub struct Record {
 
 impl Record {
     /// A record without flags. Only the name is tested here.
+    ///
+    /// # Errors
+    ///
+    /// [`NameError`]: the name has too many units, or a zero.
     pub fn new(type_guid: Guid, guid: Guid, first: u64, last: u64, name: &str) -> Result<Record, NameError> {
         Ok(Record { type_guid, guid, first, last, flags: Flags::NONE, name: Name::new(name)? })
     }

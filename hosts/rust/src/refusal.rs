@@ -4,7 +4,7 @@ use std::{error, fmt};
 /// Declares the refusals of the table once: their numbers, names and meanings. 22 and 25 stand beside them, since they carry a slot.
 macro_rules! refusals {
     ($($number:literal $name:ident: $meaning:literal,)*) => {
-        /// Why a call was refused. A refused call changed no byte of the image. Of the numbers from 32 on a call gives 33 alone yet: each other one comes with its change request.
+        /// Why a call was refused. A refused call changed no byte of the image. Of the numbers from 34 on no call gives any yet: they come with their change request.
         #[derive(Clone, Copy, Debug, PartialEq, Eq, Hash)]
         pub enum Refusal {
             $(#[doc = concat!(stringify!($number), ": ", $meaning, ".")] $name,)*
@@ -158,7 +158,10 @@ impl From<Refusal> for Refused {
 /// As a refusal is said, with the place in words, as `refused 6, PartsCrc: the back table's entry check sum does not match`.
 impl fmt::Display for Refused {
     fn fmt(&self, f: &mut fmt::Formatter<'_>) -> fmt::Result {
-        let Some(place) = self.place else { return self.refusal.fmt(f) };
+        let place = match self.place {
+            Some(place) => place,
+            None => return self.refusal.fmt(f),
+        };
         write!(f, "refused {}, {}: ", self.number(), self.refusal.name())?;
         let table = match place {
             Place::Front => "front",
@@ -193,7 +196,10 @@ mod tests {
     /// The numbers, names and meanings are those of the C header's table, and there are no others.
     #[test]
     fn refusals_are_those_of_the_header() {
-        let Some(header) = crate::repository::header() else { return };
+        let header = match crate::repository::header() {
+            Some(header) => header,
+            None => return,
+        };
         let lines: Vec<&str> =
             header.lines().filter(|line| line.starts_with("    CARD_") && !line.starts_with("    CARD_PLACE_") && line.contains(" = ")).collect();
         assert_eq!(lines.len(), 39);
@@ -220,7 +226,10 @@ mod tests {
     /// The places of the C header's enum are these, and each is said in words.
     #[test]
     fn places_are_those_of_the_header() {
-        let Some(header) = crate::repository::header() else { return };
+        let header = match crate::repository::header() {
+            Some(header) => header,
+            None => return,
+        };
         let lines: Vec<&str> = header.lines().map(str::trim).filter(|line| line.starts_with("CARD_PLACE_")).collect();
         let names = ["NONE", "FRONT", "BACK", "DISK_GUID", "SLOT"];
         assert_eq!(lines, (0..).zip(names).map(|(number, name)| format!("CARD_PLACE_{name} = {number},")).collect::<Vec<_>>());

@@ -6,6 +6,8 @@ use crate::{ffi, BlockSize, Listing, Refused, Table};
 /// The header of one table, which may state any size from 92 bytes to the block size: its check sum covers that many bytes, the rest of its block is zero, and it stands in the block
 /// that it names as its own.
 ///
+/// # Errors
+///
 /// Refused by 2 of the front or 8 of the back, 4, 29, 5, 30, 31.
 pub fn uefi_header(image: &[u8], block_size: BlockSize, table: Table) -> Result<ffi::gpt_header, Refused> {
     let call = match table {
@@ -23,6 +25,8 @@ type Count = unsafe extern "C" fn(*const u8, usize, u64) -> ffi::gpt_count;
 type Fill = unsafe extern "C" fn(*const u8, usize, u64, *mut u8, usize) -> ffi::gpt_count;
 
 /// The slots of one table whose type is not nil, ascending, each with its record. An entry may have 128 bytes times a power of two, up to 4,096; those after 128 are passed over.
+///
+/// # Errors
 ///
 /// Refused as [`uefi_header`] is, then by 7, 3, 2, 6.
 pub fn uefi_list(image: &[u8], block_size: BlockSize, table: Table) -> Result<Listing, Refused> {

@@ -1,7 +1,8 @@
 -- `lister::print_slots` meets its contract. The invariant: the lines that were printed, and the used slots that are left, are all used slots. Assumes nothing.
-use mathlib.Core.Path.{_≡_, sym, ap, _∙_}
+use mathlib.Core.Path.{_≡_, refl, sym, ap, _∙_}
+use mathlib.Core.List.{List}
 use mathlib.Core.Logic.{⊎-elim}
-use Prim.Native.Nat.{_+_, _-_, _≤_}
+use Prim.Native.Nat.{ℕ, _+_, _-_, _≤_}
 use native.Mathlib.Omega.{arith}
 use lib.ListN.{length}
 use borrow.Author.Tests.{le-ltb}
@@ -10,9 +11,13 @@ use Rattle.partition.specs.Array.{present, presentFrom}
 use Rattle.partition.proofs.Laws.{from-yes, from-no, from-none}
 use Rattle.tables.specs.Lens.{tables}
 use Rattle.listing.specs.Listing.{presentSlots}
-use Rattle.listing.proofs.Ways.{all-left}
 use Rattle.lister.proofs.print_slots.Statement.{statement}
 use Rattle.lister.proofs.print_slots.Tie as tie
+
+-- before the first slot all are left
+all-left : (xs : List ℕ) → length (presentSlots (tables 512 xs)) ≡ length (presentFrom (tables 512 xs .front .array) 0 0 (128 - 0))
+unfolding presentSlots
+all-left xs = refl
 
 abbrev Inv-loop : tie.InvT-loop
 Inv-loop img ok₀ lines₀ place₀ ok lines place =
@@ -22,7 +27,7 @@ abbrev μ-loop : tie.MeasureT-loop
 μ-loop img ok₀ lines₀ place₀ ok lines place = 128 - place
 
 loop-holds : tie.Need-loop-holds Inv-loop μ-loop
-loop-holds c = (omega arith, omega arith, omega (arith, ap length (all-left 512 (c .before .args .img .now))))
+loop-holds c = (omega arith, omega arith, omega (arith, all-left (c .before .args .img .now)))
 
 slot-at-requires : tie.Need-slot-at-requires Inv-loop μ-loop
 slot-at-requires c κs = search needs

@@ -28,8 +28,8 @@ leads c = let a = c .before .before .before .args in repair-leads (a .b) (length
 store-repair-requires : tie.Need-store-repair-requires
 store-repair-requires c κs = (c .before .before .table .ensures, leads-mend (leads (c .before .before .before)))
 
-onward-requires : tie.Need-onward-requires
-onward-requires c κs = let k = leads (c .before .before .before .before .before .before) in omega (arith, k .stage, k .high, blocks-few _ _ (room-ok _ _ (k .room)))
+onward-repair-requires : tie.Need-onward-repair-requires
+onward-repair-requires c κs = let k = leads (c .before .before .before .before .before .before) in omega (arith, k .stage, k .high, blocks-few _ _ (room-ok _ _ (k .room)))
 
 returns-2 : tie.Need-returns-2
 unfolding nextRepairAt
@@ -37,9 +37,9 @@ returns-2 c =
     let a = c .before .before .before .before .before .before .before .before .before .before .args in
     let n = length (a .img .now) in
     mend-accepted (nextRepairCheck (a .b) (length (a .img .now)) (a .stage) (a .state)) (named-next-repair (a .b) n (a .stage) (a .state)) (bare-next-repair (a .b) n (a .stage) (a .state)) (c .before .before .before .before .before .before .before .before .next-repair-check .ensures)
-    (onwardRepair (a .state)) (a .img .now) (repairStore (a .b) (length (a .img .now)) (a .state) (a .stage) (a .img .now)) (c .before .before .before .before .before .before .before .if1 .left) (c .onward .ensures) (c .before .before .before .store-repair .ensures ∙ repair-here (a .img .now) (leads (c .before .before .before .before .before .before .before)))
+    (onwardRepair (a .state)) (a .img .now) (repairStore (a .b) (length (a .img .now)) (a .state) (a .stage) (a .img .now)) (c .before .before .before .before .before .before .before .if1 .left) (c .onward-repair .ensures) (c .before .before .before .store-repair .ensures ∙ repair-here (a .img .now) (leads (c .before .before .before .before .before .before .before)))
 
 pub next-repair-spec : {M : Type 1} → statement M
 next-repair-spec =
     tie.close
-    (tie.spec (λ c κs. search needs) (λ c κs. search needs) returns (λ c κs. search needs) store-repair-requires onward-requires (λ c. search needs) returns-2)
+    (tie.spec (λ c κs. search needs) (λ c κs. search needs) returns (λ c κs. search needs) store-repair-requires onward-repair-requires (λ c. search needs) returns-2)

@@ -1,68 +1,41 @@
--- `listing::inner::nth_slot` meets its contract. The invariant: i used slots are passed, and those after the last of them are left. Assumes nothing.
-use mathlib.Core.Path.{_≡_, sym, ap, _∙_}
-use Prim.Native.Nat.{ℕ, _-_, _≤_}
+-- `listing::inner::nth_slot` meets its contract. Assumes nothing.
+use mathlib.Core.Path.{_≡_, ap, _∙_}
+use mathlib.Core.List.{List}
+use Prim.Native.Nat.{ℕ, _+_, _≤_}
 use native.Mathlib.Omega.{arith}
-use lib.ListN.{drop}
+use borrow.Author.Needs.{needs}
+use lib.ListN.{length, getD}
+use Rattle.units.specs.Bytes.{part}
+use Rattle.units.proofs.Lists.{length-lent, lent-part}
 use Rattle.partition.specs.Array.{presentFrom}
-use Rattle.tables.specs.Lens.{tables}
+use Rattle.tables.specs.Lens.{tablesAt}
+use Rattle.tables.proofs.Good.{room-ok}
 use Rattle.listing.specs.Listing.{presentSlots}
-use Rattle.listing.proofs.Ways.{passed-one, none-left, first-left, all-left}
 use Rattle.listing.proofs.inner.nth_slot.Statement.{statement}
 use Rattle.listing.proofs.inner.nth_slot.Tie as tie
 
-abbrev Inv-loop : tie.InvT-loop
-Inv-loop img b k after₀ i₀ after i = (i ≤ k) × (drop i (presentSlots (tables b img)) ≡ presentFrom (tables b img .front .array) 0 (after .0) (128 - after .0))
+front-array-requires : tie.Need-front-array-requires
+front-array-requires c κs = room-ok _ _ (c .before .pre) .most
 
-abbrev μ-loop : tie.MeasureT-loop
-μ-loop img b k after₀ i₀ after i = k - i
+-- the array ends inside the image
+inside : (c : tie.After-front-array) → c .front-array .result .0 + 16384 ≤ length (c .before .before .args .img .now)
+inside c = let r = room-ok _ _ (c .before .before .pre) in omega (arith, c .front-array .ensures, r .low, r .seam, r .top)
 
-loop-holds : tie.Need-loop-holds Inv-loop μ-loop
-loop-holds c = let a = c .before .args in (omega arith, all-left (a .b) (a .img .now))
+add-nth-in : tie.Need-add-nth-in
+add-nth-in c = let r = room-ok _ _ (c .before .before .pre) in omega (arith, c .front-array .ensures, r .most)
 
-used-after-requires : tie.Need-used-after-requires Inv-loop μ-loop
-used-after-requires c κs = c .before .before .before .pre
+part-nth-in-end : tie.Need-part-nth-in-end
+part-nth-in-end c = inside c
 
-returns : tie.Need-returns Inv-loop μ-loop
+nth-in-requires : tie.Need-nth-in-requires
+nth-in-requires c κs = length-lent (c .before .before .before .args .img .now) (c .before .front-array .result .0) 16384 (inside (c .before))
+
+returns : tie.Need-returns
+unfolding presentSlots tablesAt
 returns c =
-    let a = c .before .before .before .before .before .before .args in
-    let l = c .before .before .before .before .loop in
-    none-left (tables (a .b) (a .img .now) .front .array) (l .after .0) (c .before .before .used-after .ensures) (presentSlots (tables (a .b) (a .img .now))) (l .i) (a .k) (l .inv .0) (c .if1 .taken) (l .inv .1)
-
-add-i : tie.Need-add-i Inv-loop μ-loop
-add-i c = omega arith
-
-loop-less : tie.Need-loop-less Inv-loop μ-loop
-loop-less c = omega arith
-
-loop-again : tie.Need-loop-again Inv-loop μ-loop
-loop-again c =
-    let a = c .before .before .before .before .before .before .args in
-    let l = c .before .before .before .before .loop in (
-      omega arith,
-      passed-one (tables (a .b) (a .img .now) .front .array) (l .after .0) (c .before .before .used-after .ensures) (presentSlots (tables (a .b) (a .img .now))) (l .i) (c .if1 .left) (l .inv .1),
-    )
-
-used-after-requires-2 : tie.Need-used-after-requires-2 Inv-loop μ-loop
-used-after-requires-2 c κs = c .before .before .before .pre
-
-returns-2 : tie.Need-returns-2 Inv-loop μ-loop
-returns-2 c =
     let a = c .before .before .before .before .args in
-    let l = c .before .before .loop in
-    let e : l .i ≡ a .k = omega arith in
-    first-left (tables (a .b) (a .img .now) .front .array) (l .after .0) (c .used-after2 .ensures) (presentSlots (tables (a .b) (a .img .now))) (a .k) (ap (λ (j : ℕ). drop j (presentSlots (tables (a .b) (a .img .now)))) (sym e) ∙ l .inv .1)
+    c .nth-in .ensures
+    ∙ ap (λ (l : List ℕ). getD (presentFrom l 0 0 128) (a .k) 0) (lent-part (a .img .now) (c .before .before .front-array .result .0) 16384 ∙ ap (λ (i : ℕ). part (a .img .now) i 16384) (c .before .before .front-array .ensures))
 
 pub nth-slot-spec : {M : Type 1} → statement M
-nth-slot-spec =
-    tie.close
-    (tie.spec
-    Inv-loop
-    μ-loop
-    loop-holds
-    used-after-requires
-    returns
-    add-i
-    loop-less
-    loop-again
-    used-after-requires-2
-    returns-2)
+nth-slot-spec = tie.close (tie.spec front-array-requires add-nth-in (λ c. search needs) (λ c. search needs) part-nth-in-end nth-in-requires returns)

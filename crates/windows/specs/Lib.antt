@@ -1,0 +1,2 @@
+-- Two windows of a card, and what the calls on them answer and leave.
+pub mod Windows

@@ -1,0 +1,2 @@
+-- The laws of listing windows.
+pub mod Ways

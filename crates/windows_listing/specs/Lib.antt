@@ -1,0 +1,2 @@
+-- What the free ground of two windows is.
+pub mod Ground

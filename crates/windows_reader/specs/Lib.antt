@@ -1,0 +1,2 @@
+-- What the reader of two windows takes and shows.
+pub mod Parts

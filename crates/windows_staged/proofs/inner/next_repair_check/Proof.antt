@@ -1,0 +1,40 @@
+-- `windows_staged::inner::next_repair_check` meets its contract: the tests are those of the definition, in its order. Assumes nothing.
+use Prim.Native.Nat.{_*_, _^_, _<_}
+use native.Mathlib.Omega.{arith}
+use borrow.Author.Needs.{needs}
+use Rattle.units.proofs.Laws.{size-yes, size-past, product, product-not}
+use Rattle.staged.proofs.Ways.{next-repair-1}
+use Rattle.windows_staged.proofs.Ways.{repair-first, repair-second, repair-over}
+use Rattle.windows_staged.proofs.inner.next_repair_check.Statement.{statement}
+use Rattle.windows_staged.proofs.inner.next_repair_check.Tie as tie
+
+returns : tie.Need-returns
+returns c = let a = c .before .before .args in repair-first _ _ _ _ _ (a .r) (next-repair-1 _ _ _ _ (c .before .good-block-size .ensures) (c .if1 .taken)) (λ z. omega arith)
+
+div-if2 : tie.Need-div-if2
+div-if2 c = let p = size-yes _ (c .before .good-block-size .ensures) (c .if1 .left) in omega arith
+
+returns-2 : tie.Need-returns-2
+returns-2 c =
+    let a = c .before .before .before .args in
+    let h : a .r .len < 2 ^ 64 = search needs in
+    repair-over _ _ _ _ _ (a .r) (c .before .before .good-block-size .ensures) (c .before .if1 .left) h (product-not (a .blocks) (a .b) (div-if2 (c .before)) (c .if2 .taken))
+
+-- past the second test the product fits
+width : (c : tie.Else2) → let a = c .before .before .before .args in a .blocks * a .b < 2 ^ 64
+width c = product _ _ (div-if2 (c .before)) (c .if2 .left)
+
+mul-next-repair-check : tie.Need-mul-next-repair-check
+mul-next-repair-check c = omega (arith, width c)
+
+returns-3 : tie.Need-returns-3
+returns-3 c = let a = c .before .before .before .before .before .args in repair-first _ _ _ _ _ (a .r) (c .before .next-repair-check .ensures) (c .if3 .taken)
+
+length-check-requires : tie.Need-length-check-requires
+length-check-requires c κs = size-past _ (c .before .before .before .before .good-block-size .ensures) (c .before .before .before .if1 .left) .1
+
+returns-4 : tie.Need-returns-4
+returns-4 c = let a = c .before .before .before .before .before .before .args in repair-second _ _ _ _ _ (a .r) (c .before .before .next-repair-check .ensures) (c .before .if3 .left) (c .length-check .ensures)
+
+pub next-repair-check-spec : {M : Type 1} → statement M
+next-repair-check-spec = tie.close (tie.spec (λ c κs. search needs) returns div-if2 returns-2 mul-next-repair-check (λ c κs. search needs) returns-3 length-check-requires returns-4)

@@ -1,0 +1,2 @@
+-- The theorem of head and tail.
+pub mod AsImage

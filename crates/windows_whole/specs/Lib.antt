@@ -1,0 +1,2 @@
+-- The calls on two windows, as values.
+pub mod Calls
