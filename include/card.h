@@ -7,7 +7,7 @@
 
    What a caller owes:
    - A lent slice is a pointer and then a length in bytes. The pointer points to so many bytes and is never null, also where the length is 0. A row of
-     64-bit numbers has its length in numbers.
+     64-bit numbers, or of slots, has its length in numbers.
    - Two slices that are lent to one call do not overlap if the call writes one of them.
    - While a call runs, nobody else writes a slice that is lent to it: no other thread, no other process and no device. A call that only reads
      a slice lets others read it too.
@@ -76,12 +76,11 @@ enum card_number {
     CARD_BAD_HEADER_SIZE = 29,         /* the header's stated size is below 92 or above the block size */
     CARD_DIRTY_BLOCK = 30,             /* the header's block has other bytes than zero after the header */
     CARD_WRONG_PLACE = 31,             /* the header names another block than the one it was read from */
-    /* Of the numbers from 34 on no call gives one yet: each comes with its change request. */
     CARD_WINDOW_LENGTH = 32,           /* a window is not as long as the card asks for */
     CARD_TABLE_FULL = 33,              /* all 128 slots are used */
     CARD_BAD_MARK = 34,                /* the map does not begin with the mark FBM */
     CARD_UNKNOWN_VERSION = 35,         /* the label's version is not 1 */
-    CARD_BAD_DATE = 36,                /* the label's month or day does not exist */
+    CARD_BAD_DATE = 36,                /* the label's month is not 1 to 12, or its day not 1 to 31 */
     CARD_TWO_DATES = 37,               /* the maps have two dates or two style revisions */
     CARD_EMPTY_LIST = 38               /* no slot was named */
 };
@@ -498,6 +497,82 @@ gpt_next card_map_lowest_free(card_slot_map map);
 /* How many slots of a map are used. */
 uint32_t card_map_used(card_slot_map map);
 
+/* ---- the labels of maps: the partition of a map begins with 13 bytes, the mark FBM, a version of 16 bits that is 1, the year (16), the month and the day (8 each), the
+   style revision (16) and the sheet number (16), each least byte first. Month is 1 to 12 and day 1 to 31, in any month; year, style revision and sheet are any number.
+
+   A label is payload. Between the stages of an update these calls answer by the card check, as every plain call does. */
+
+typedef struct card_label {
+    uint16_t year;
+    uint8_t month;
+    uint8_t day;
+    uint16_t style;
+    uint16_t sheet;
+} card_label;
+CARD_SIZE(card_label, 8);
+CARD_AT(card_label, year, 0);
+CARD_AT(card_label, month, 2);
+CARD_AT(card_label, day, 3);
+CARD_AT(card_label, style, 4);
+CARD_AT(card_label, sheet, 6);
+
+/* place and differs as in a card_answer; the label beside a refusal is zero. */
+typedef struct card_label_read {
+    uint32_t number;
+    uint32_t place;
+    uint32_t differs;
+    card_label label;
+} card_label_read;
+CARD_SIZE(card_label_read, 20);
+CARD_AT(card_label_read, number, 0);
+CARD_AT(card_label_read, place, 4);
+CARD_AT(card_label_read, differs, 8);
+CARD_AT(card_label_read, label, 12);
+
+/* slot: by 18, 23 and 34 to 37 the slot of the list that is refused, as it was given, else 0. place and differs as in a card_answer; the date and the style revision
+   beside a refusal are zero. */
+typedef struct card_judged {
+    uint32_t number;
+    uint32_t slot;
+    uint32_t place;
+    uint32_t differs;
+    uint16_t year;
+    uint8_t month;
+    uint8_t day;
+    uint16_t style;
+} card_judged;
+CARD_SIZE(card_judged, 24);
+CARD_AT(card_judged, number, 0);
+CARD_AT(card_judged, slot, 4);
+CARD_AT(card_judged, place, 8);
+CARD_AT(card_judged, differs, 12);
+CARD_AT(card_judged, year, 16);
+CARD_AT(card_judged, month, 18);
+CARD_AT(card_judged, day, 19);
+CARD_AT(card_judged, style, 20);
+
+/* The label of a slot's partition.
+   The check's numbers, then 18, 23, 34, 35, 36. */
+card_label_read card_read_label(const uint8_t *img, size_t img_len, uint64_t b, uint32_t slot);
+
+/* Writes a label, with the mark and version 1, at the start of a slot's partition: 13 bytes, and no other byte changes. What was written reads back.
+   The check's numbers, then 18, 23, 36. */
+card_answer card_write_label(uint8_t *img, size_t img_len, uint64_t b, uint32_t slot, card_label label);
+
+/* Whether the maps of the slots of a list have one date and one style revision, and which. The sheet is not compared. A slot that is named twice is judged as one, and the
+   order of an accepted list does not matter. A refused one names the first slot in the list's order that fails or differs from the first. slots_len is in slots, not in bytes.
+   1, 38 where slots_len is 0, the check's numbers; then slot by slot 18, 23, 34, 35, 36, and 37 for another date or another style revision than the first slot's. */
+card_judged card_judge(const uint8_t *img, size_t img_len, uint64_t b, const uint32_t *slots, size_t slots_len);
+
+/* The same on two windows (see card_window_check), for cards in files of any size. The maps are in no window, so the labels are handed in: read 13 bytes of the card where
+   card_window_payload_place says that the slot's first 13 bytes stand. Bytes for a slot that is refused by 18 or 23 are not looked at.
+   One label: the check's numbers on windows, then 18, 23, 2 where fewer than 13 bytes are lent, 34, 35, 36. Bytes after the 13th are not looked at. */
+card_label_read card_window_read_label(const uint8_t *head, size_t head_len, const uint8_t *tail, size_t tail_len, uint64_t blocks, uint64_t b, uint32_t slot, const uint8_t *label, size_t label_len);
+
+/* A set, with 13 bytes a slot in the list's order. Hand in a slot that is named twice with the same bytes twice: each of its labels is judged.
+   1, 38 where slots_len is 0, the check's other numbers on windows, 2 where labels_len is not 13 times slots_len; then slot by slot 18, 23, 34, 35, 36, 37. */
+card_judged card_window_judge(const uint8_t *head, size_t head_len, const uint8_t *tail, size_t tail_len, uint64_t blocks, uint64_t b, const uint32_t *slots, size_t slots_len, const uint8_t *labels, size_t labels_len);
+
 /* ---- the pulled card: put, clear and repair in stages of one block store each, and the reader of a card that was pulled between them
 
    A put or a clear has four stages. With N blocks, img_len / b, and A blocks of the array, 16,384 / b, each changes one block and no other byte:
@@ -643,7 +718,7 @@ card_repair_step card_next_repair(uint8_t *img, size_t img_len, uint64_t b, uint
    With A blocks of the array, 16,384 / b, and N blocks of the card, the head is the card's blocks 0 to A + 1, which are block 0 and the front table: b + b + 16,384 bytes. The tail is
    its last A + 1 blocks, the back table: b + 16,384 bytes. So block k of the card stands in the head at k * b, and block N - 1 - A + k in the tail at k * b. blocks is N, the card's whole
    number of blocks. A call on windows answers as the call of the same name on a whole image of so many blocks, and leaves the windows as those blocks would be left, whatever the middle
-   holds. Head and tail do not overlap.
+   holds. Of the label calls, to which the labels are handed in, the numbers are said there. Head and tail do not overlap.
    Its numbers: 1; 3 if blocks times b passes 64 bits; 8 and 10 by blocks; 32 if either window is not exactly that long; then the numbers of the call on an image. In a later stage:
    1, 26 (blocks times b, as a whole number, is the length that the state must name), then 32. 3 and 32 name no place. */
 

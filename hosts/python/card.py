@@ -1,4 +1,4 @@
-"""The card calls for Python, over libcard.so: lay, check, put, clear, write_payload, listing, free_runs; slot_map and what goes with it; start_put, start_clear, next_stage,
+"""The card calls for Python, over libcard.so: lay, check, put, clear, write_payload, listing, free_runs; slot_map and what goes with it; read_label, write_label and judge, of the labels of maps; start_put, start_clear, next_stage,
 start_repair and next_repair, which change one block each, the reader of a card that was pulled between them (reader_..), and put_staged, clear_staged and repair_staged, which do all of it
 on a file; uefi_header and uefi_listing, which read the tables of other makers; payload_place and read_payload; crc32_next, the check sum of bytes that come in pieces; and Card, all of
 this on a card in a file or a device of any size.
@@ -47,6 +47,18 @@ card.Refused: refused 4, InvalidGptSignature: the back table's header does not b
 (1, 1, 2, True)
 >>> hex(crc32_next(crc32_next(FRESH, b"1234"), b"56789"))
 '0xcbf43926'
+
+Each map's partition begins with a label, and a set of maps on one screen has one date and one style revision.
+
+>>> write_label(image, 512, 1, Label(2026, 7, 14, style=3, sheet=9))
+>>> read_label(image, 512, 1)
+Label(year=2026, month=7, day=14, style=3, sheet=9)
+>>> judge(image, 512, [1, 1])
+Dated(year=2026, month=7, day=14, style=3)
+>>> judge(image, 512, [1, 2])
+Traceback (most recent call last):
+  ...
+card.Refused: refused 23, EmptySlot: the slot is not used (slot 2)
 
 People pull cards in the middle of an update. Stage by stage a put or a clear changes one block at a time, and wherever it is cut the reader shows exactly the old table or
 exactly the new one: the old one up to stage two, the new one from stage three on.
@@ -106,6 +118,7 @@ import itertools
 import mmap
 import operator
 import os
+import struct
 import uuid
 from dataclasses import dataclass, field, replace
 
@@ -150,7 +163,7 @@ NUMBERS = {
     # Of these no call gives any yet: they come with their change request.
     34: ("BadMark", "the map does not begin with the mark FBM"),
     35: ("UnknownVersion", "the label's version is not 1"),
-    36: ("BadDate", "the label's month or day does not exist"),
+    36: ("BadDate", "the label's month is not 1 to 12, or its day not 1 to 31"),
     37: ("TwoDates", "the maps have two dates or two style revisions"),
     38: ("EmptyList", "no slot was named"),
 }
@@ -179,7 +192,7 @@ def _meaning(number, slot, place, differs):
 
 
 class Refused(Exception):
-    """A call that was refused: its number, the slot that 22 and 25 name (else 0), the place that the card check names (FRONT, BACK, DISK_GUID or SLOT, else
+    """A call that was refused: its number, the slot that 22 and 25 name, or of a judged set the one that 18, 23 and 34 to 37 name (else 0), the place that the card check names (FRONT, BACK, DISK_GUID or SLOT, else
     NOWHERE), and the slot that differs (0 but for SLOT)."""
 
     def __init__(self, number, slot=0, place=NOWHERE, differs=0):
@@ -251,6 +264,27 @@ class SlotMap:
     def used(self):
         """How many slots are used."""
         return _map_used(_map(self))
+
+
+@dataclass(frozen=True)
+class Label:
+    """The label that a map's partition begins with: the map's date, its style revision and its sheet number. Month is 1 to 12 and day 1 to 31, in any month."""
+
+    year: int
+    month: int
+    day: int
+    style: int
+    sheet: int
+
+
+@dataclass(frozen=True)
+class Dated:
+    """What the maps of a set have in common: date and style revision."""
+
+    year: int
+    month: int
+    day: int
+    style: int
 
 
 @dataclass(frozen=True)
@@ -372,6 +406,18 @@ class _Carried(ctypes.Structure):
     _fields_ = [("answer", _Answer), ("map", _Map)]
 
 
+class _Label(ctypes.Structure):
+    _fields_ = [("year", ctypes.c_uint16), ("month", ctypes.c_uint8), ("day", ctypes.c_uint8), ("style", ctypes.c_uint16), ("sheet", ctypes.c_uint16)]
+
+
+class _LabelRead(ctypes.Structure):
+    _fields_ = [("number", ctypes.c_uint32), ("place", ctypes.c_uint32), ("differs", ctypes.c_uint32), ("label", _Label)]
+
+
+class _Judged(ctypes.Structure):
+    _fields_ = [*_Answer._fields_, ("year", ctypes.c_uint16), ("month", ctypes.c_uint8), ("day", ctypes.c_uint8), ("style", ctypes.c_uint16)]
+
+
 class _Copy(ctypes.Structure):
     _fields_ = [("number", ctypes.c_uint32), ("back", ctypes.c_bool)]
 
@@ -432,7 +478,7 @@ class _Buffer(ctypes.Structure):
 
 
 for _struct, _size in ((_Flags, 16), (_Bits, 16), (_Record, 136), (_Entry, 128), (_Guid, 16), (_Answer, 16), (_Stored, 24), (_Count, 16), (_Next, 8), (_Row, 136), (_Map, 16),
-                       (_Made, 32), (_Carried, 32), (_Copy, 8), (_ReaderCount, 8), (_SlotRead, 152), (_ReaderSlot, 144), (_Spot, 24), (_Header, 88), (_HeaderRead, 96), (_Update, 176), (_UpdateStep, 192), (_Repair, 48), (_RepairStep, 64),
+                       (_Made, 32), (_Carried, 32), (_Label, 8), (_LabelRead, 20), (_Judged, 24), (_Copy, 8), (_ReaderCount, 8), (_SlotRead, 152), (_ReaderSlot, 144), (_Spot, 24), (_Header, 88), (_HeaderRead, 96), (_Update, 176), (_UpdateStep, 192), (_Repair, 48), (_RepairStep, 64),
                        (_Buffer, 80)):
     if ctypes.sizeof(_struct) != _size:
         raise ImportError(f"{_struct.__name__} has {ctypes.sizeof(_struct)} bytes here, and not {_size}: this module is for x86-64")
@@ -487,6 +533,9 @@ _put_mapped = _declare("card_map_put", _Carried, *_slice, ctypes.c_uint64, ctype
 _clear_mapped = _declare("card_map_clear", _Carried, *_slice, ctypes.c_uint64, ctypes.c_uint32, _Map)
 _lowest_free = _declare("card_map_lowest_free", _Next, _Map)
 _map_used = _declare("card_map_used", ctypes.c_uint32, _Map)
+_read_label = _declare("card_read_label", _LabelRead, *_slice, ctypes.c_uint64, ctypes.c_uint32)
+_write_label = _declare("card_write_label", _Answer, *_slice, ctypes.c_uint64, ctypes.c_uint32, _Label)
+_judge = _declare("card_judge", _Judged, *_slice, ctypes.c_uint64, *_slice)
 _reader_copy = _declare("card_reader_copy", _Copy, *_slice, ctypes.c_uint64)
 _reader_list = _declare("card_reader_list", _ReaderCount, *_slice, ctypes.c_uint64, *_slice)
 _uefi_headers = {table: _declare(f"gpt_uefi_read_{name}_header", _HeaderRead, *_slice, ctypes.c_uint64) for table, name in ((FRONT, "primary"), (BACK, "backup"))}
@@ -526,6 +575,8 @@ _window_start_clear = _on_windows("start_clear", _UpdateStep, ctypes.c_uint32)
 _window_next_stage = _on_windows("next_stage", _UpdateStep, ctypes.c_uint32, _Update)
 _window_start_repair = _on_windows("start_repair", _RepairStep)
 _window_next_repair = _on_windows("next_repair", _RepairStep, ctypes.c_uint32, _Repair)
+_window_read_label = _on_windows("read_label", _LabelRead, ctypes.c_uint32, *_slice)
+_window_judge = _on_windows("judge", _Judged, *_slice, *_slice)
 _window_place = _on_windows("payload_place", _Spot, ctypes.c_uint32, ctypes.c_size_t, ctypes.c_size_t)
 
 
@@ -608,6 +659,11 @@ def _carried(answer):
     """The map after an accepted call; after a refused one the caller still has the one that it handed in."""
     _take(answer.answer)
     return SlotMap(answer.map.low, answer.map.high)
+
+
+def _label(l):
+    year, style, sheet = (_number(x, 16, "a number of the label") for x in (l.year, l.style, l.sheet))
+    return _Label(year, _number(l.month, 8, "the month"), _number(l.day, 8, "the day"), style, sheet)
 
 
 def _update(u):
@@ -740,6 +796,29 @@ def put_lowest(image, block_size, record, beside):
     """Puts a record into the lowest slot that is free in the slot map `beside`; gives the slot and the map after it. 33, then as put."""
     slot = beside.lowest_free()
     return slot, put_mapped(image, block_size, slot, record, beside)
+
+
+def read_label(image, block_size, slot):
+    """The label of a slot's map. The check's numbers, then 18, 23, 34, 35, 36."""
+    with _lent(image) as lent:
+        read = _take(_read_label(*lent, _blocks(block_size), _number(slot, 32, "the slot"))).label
+    return Label(read.year, read.month, read.day, read.style, read.sheet)
+
+
+def write_label(image, block_size, slot, label):
+    """Writes a label at the start of a slot's partition, 13 bytes and no other. The check's numbers, then 18, 23, 36."""
+    with _lent(image, written=True) as lent:
+        _take(_write_label(*lent, _blocks(block_size), _number(slot, 32, "the slot"), _label(label)))
+
+
+def judge(image, block_size, slots):
+    """The one date and style revision of the maps of a list of slots; the sheet is not compared, and a slot that is named twice is judged as one. 1, 38 where the list is empty,
+    the check's numbers; then slot by slot 18, 23, 34, 35, 36, and 37 for another date or another style revision than the first slot's. Refused.slot is the first that fails or differs."""
+    numbers = [_number(slot, 32, "a slot") for slot in slots]
+    row = (ctypes.c_uint32 * (len(numbers) or 1))(*numbers)
+    with _lent(image) as lent:
+        judged = _take(_judge(*lent, _blocks(block_size), ctypes.byref(row), len(numbers)))
+    return Dated(judged.year, judged.month, judged.day, judged.style)
 
 
 def reader_copy(image, block_size):
@@ -1036,6 +1115,41 @@ class Card:
     def read_payload(self, slot, place, count):
         """So many bytes from a place of a slot's partition on. The check's numbers, then 18, 23, 24."""
         return bytes(self._read(self.payload_place(slot, place, count), count))
+
+    def read_label(self, slot):
+        """The label of a slot's map, of which 13 bytes are read. The check's numbers, then 18, 23, 34, 35, 36."""
+        return self._labelled(slot, self.read_payload(slot, 0, 13))
+
+    def write_label(self, slot, label):
+        """Writes a label at the start of a slot's partition, 13 bytes and no other. The check's numbers, then 18, 23, 36."""
+        self._to_write()
+        l = _label(label)
+        data = struct.pack("<3sHHBBHH", b"FBM", 1, l.year, l.month, l.day, l.style, l.sheet)
+        # The library reads the bytes before the file has them: it refuses what it would refuse to write.
+        self._labelled(slot, data)
+        self.write_payload(slot, 0, data)
+
+    def judge(self, slots):
+        """The one date and style revision of the maps of a list of slots, of each of which 13 bytes are read before any is judged; the sheet is not compared, and a slot that is named twice is judged as one.
+        38 where the list is empty, the check's numbers; then slot by slot 18, 23, 34, 35, 36, 37. Refused.slot is the first that fails or differs."""
+        numbers = [_number(slot, 32, "a slot") for slot in slots]
+        # What a slot holds is read once, also where it is named twice. The judgement refuses an unreadable slot in its turn.
+        found = {slot: self._first_bytes(slot) for slot in dict.fromkeys(numbers)}
+        row = (ctypes.c_uint32 * (len(numbers) or 1))(*numbers)
+        with _lent(b"".join(found[slot] for slot in numbers)) as labels:
+            judged = self._ask(_window_judge, ctypes.byref(row), len(numbers), *labels)
+        return Dated(judged.year, judged.month, judged.day, judged.style)
+
+    def _first_bytes(self, slot):
+        try:
+            return self.read_payload(slot, 0, 13)
+        except Refused:
+            return bytes(13)
+
+    def _labelled(self, slot, data):
+        with _lent(data) as lent:
+            read = self._ask(_window_read_label, _number(slot, 32, "the slot"), *lent).label
+        return Label(read.year, read.month, read.day, read.style, read.sheet)
 
     def sync(self):
         """Waits until the device has stored all that was written."""

@@ -235,6 +235,9 @@ static void all_at(uint32_t number, uint32_t place, uint32_t differs) {
     AT(card_map_make(img, LEN, BLOCK), place, differs);
     AT(card_map_put(img, LEN, BLOCK, 1, some(34, 34), none).answer, place, differs);
     AT(card_map_clear(img, LEN, BLOCK, 1, none).answer, place, differs);
+    AT(card_read_label(img, LEN, BLOCK, 1), place, differs);
+    AT(card_write_label(img, LEN, BLOCK, 1, (card_label){0, 1, 1, 0, 0}), place, differs);
+    AT(card_judge(img, LEN, BLOCK, (const uint32_t[]){1}, 1), place, differs);
     AT(card_start_put(img, LEN, BLOCK, 1, some(34, 34)), place, differs);
     AT(card_start_clear(img, LEN, BLOCK, 1), place, differs);
 }
@@ -397,6 +400,85 @@ static void maps(void) {
     SAME(c.answer.slot, 0);
     BYTES(&c.map, &both, sizeof both);
     KEPT();
+}
+
+/* A label is refused by a number, and comes back zero. */
+#define NO_LABEL(x, n) do { card_label_read l_ = (x); SAME(l_.number, n); ZEROS(&l_.label, sizeof l_.label); } while (0)
+/* So is a set, with the slot of the list that it names. */
+#define NO_SET(x, n, s) do { card_judged j_ = (x); SAME(j_.number, n); SAME(j_.slot, s); SAME(j_.year | j_.month | j_.day | j_.style, 0); AT(j_, 0, 0); } while (0)
+
+/* Labels in slots 7 (block 35 on) and 128 (block 34), and the sets that they make. */
+static void labels(void) {
+    const card_label summer = {0xE7E6, 12, 31, 0xD7D6, 0xC7C6}, first = {0, 1, 1, 0, 0};
+    const uint8_t stands[13] = {'F', 'B', 'M', 1, 0, 0xE6, 0xE7, 12, 31, 0xD6, 0xD7, 0xC6, 0xC7};
+    uint8_t *at = img + 35 * BLOCK;
+    memcpy(before, img, LEN);
+    NO_LABEL(card_read_label(img, LEN, 1024, 7), CARD_BAD_BLOCK_SIZE);
+    NO_LABEL(card_read_label(img, 1000, BLOCK, 7), CARD_TO_SMALL_FOR_BACKUP);
+    NO_LABEL(card_read_label(img, LEN, BLOCK, 129), CARD_BAD_SLOT);
+    NO_LABEL(card_read_label(img, LEN, BLOCK, 1), CARD_EMPTY_SLOT);
+    NO_LABEL(card_read_label(img, LEN, BLOCK, 7), CARD_BAD_MARK);
+    SAME(card_write_label(img, LEN, BLOCK, 0, first).number, CARD_BAD_SLOT);
+    SAME(card_write_label(img, LEN, BLOCK, 1, first).number, CARD_EMPTY_SLOT);
+    SAME(card_write_label(img, LEN, BLOCK, 1, (card_label){0, 0, 1, 0, 0}).number, CARD_EMPTY_SLOT);
+    for (int k = 0; k < 4; k++) {
+        const uint8_t months[] = {0, 13, 1, 1}, days[] = {1, 1, 0, 32};
+        SAME(card_write_label(img, LEN, BLOCK, 7, (card_label){2026, months[k], days[k], 1, 1}).number, CARD_BAD_DATE);
+    }
+    KEPT();
+    SAME(card_write_label(img, LEN, BLOCK, 7, summer).number, 0);
+    BYTES(at, stands, 13);
+    memcpy(at, before + 35 * BLOCK, 13);
+    KEPT();
+    memcpy(at, stands, 13);
+    card_label_read read = card_read_label(img, LEN, BLOCK, 7);
+    SAME(read.number, 0);
+    SAME(read.label.year, summer.year);
+    SAME(read.label.month, summer.month);
+    SAME(read.label.day, summer.day);
+    SAME(read.label.style, summer.style);
+    SAME(read.label.sheet, summer.sheet);
+    at[2] ^= 1;
+    NO_LABEL(card_read_label(img, LEN, BLOCK, 7), CARD_BAD_MARK);
+    at[2] ^= 1, at[4] = 1;
+    NO_LABEL(card_read_label(img, LEN, BLOCK, 7), CARD_UNKNOWN_VERSION);
+    at[4] = 0, at[8] = 0;
+    NO_LABEL(card_read_label(img, LEN, BLOCK, 7), CARD_BAD_DATE);
+    at[8] = 31;
+    SAME(card_write_label(img, LEN, BLOCK, 128, (card_label){summer.year, summer.month, summer.day, summer.style, 1}).number, 0);
+}
+
+/* The sets of the two labels, and of what is not one. Slots 7 and 128 have one date; the image is given back as it was before the labels. */
+static void sets(void) {
+    const uint32_t both[] = {128, 7, 128}, none[] = {7, 0, 1}, empty[] = {128, 1, 0};
+    card_judged j = card_judge(img, LEN, BLOCK, both, 3);
+    SAME(j.number, 0);
+    SAME(j.slot, 0);
+    SAME(j.year, 0xE7E6);
+    SAME(j.month, 12);
+    SAME(j.day, 31);
+    SAME(j.style, 0xD7D6);
+    AT(j, 0, 0);
+    SAME(card_judge(img, LEN, BLOCK, both + 1, 1).day, 31);
+    NO_SET(card_judge(img, LEN, 513, both, 0), CARD_BAD_BLOCK_SIZE, 0);
+    NO_SET(card_judge(img, 0, BLOCK, both, 0), CARD_EMPTY_LIST, 0);
+    NO_SET(card_judge(img, 0, BLOCK, both, 1), CARD_TO_SMALL_FOR_BACKUP, 0);
+    NO_SET(card_judge(img, LEN, BLOCK, none, 3), CARD_BAD_SLOT, 0);
+    NO_SET(card_judge(img, LEN, BLOCK, (const uint32_t[]){UINT32_MAX}, 1), CARD_BAD_SLOT, UINT32_MAX);
+    NO_SET(card_judge(img, LEN, BLOCK, empty, 3), CARD_EMPTY_SLOT, 1);
+    img[34 * BLOCK + 9] ^= 1;
+    NO_SET(card_judge(img, LEN, BLOCK, both, 3), CARD_TWO_DATES, 7);
+    NO_SET(card_judge(img, LEN, BLOCK, both + 1, 2), CARD_TWO_DATES, 128);
+    img[34 * BLOCK + 9] ^= 1, img[34 * BLOCK + 8] = 30;
+    NO_SET(card_judge(img, LEN, BLOCK, both + 1, 2), CARD_TWO_DATES, 128);
+    img[34 * BLOCK + 7] = 13;
+    NO_SET(card_judge(img, LEN, BLOCK, both + 1, 2), CARD_BAD_DATE, 128);
+    img[34 * BLOCK + 3] = 2;
+    NO_SET(card_judge(img, LEN, BLOCK, both + 1, 2), CARD_UNKNOWN_VERSION, 128);
+    img[34 * BLOCK] = 0;
+    NO_SET(card_judge(img, LEN, BLOCK, both + 1, 2), CARD_BAD_MARK, 128);
+    NO_SET(card_judge(img, LEN, BLOCK, both, 3), CARD_BAD_MARK, 128);
+    memcpy(img, before, LEN);
 }
 
 /* The reader of an image that has slots 7 and 128 in the table that it takes. */
@@ -1288,6 +1370,25 @@ static void slots_alike(int line, uint32_t slot) {
     }
 }
 
+/* The labels of a set by the windows, handed in as they stand in the whole card, and the judgement; bytes of slots that are refused are not looked at. */
+static void sets_alike(int line, const uint32_t *slots, size_t n) {
+    uint8_t labels[3 * 13];
+    memset(labels, 0x5A, sizeof labels);
+    for (size_t i = 0; i < n; i++) {
+        card_spot at = card_payload_place(WHOLE, slots[i], 0, 13);
+        if (at.number == 0) memcpy(labels + 13 * i, whole + at.at, 13);
+        card_label_read l = card_window_read_label(WINDOWS, slots[i], labels + 13 * i, 13), m = card_read_label(WHOLE, slots[i]);
+        TOLD(line, l, m, label.year);
+        bytes_at(line, "label", &l.label, &m.label, sizeof l.label);
+    }
+    card_judged j = card_window_judge(WINDOWS, slots, n, labels, 13 * n), k = card_judge(WHOLE, slots, n);
+    TOLD(line, j, k, slot);
+    same_at(line, "year", j.year, k.year);
+    same_at(line, "month", j.month, k.month);
+    same_at(line, "day", j.day, k.day);
+    same_at(line, "style", j.style, k.style);
+}
+
 /* Every call that reads, on the windows and on the whole card: the same answers and rows, and no byte of the windows changes. */
 static void reads_alike(int line) {
     static const uint32_t slots[] = {0, 1, 6, 7, 8, 127, 128, 129, UINT32_MAX};
@@ -1313,6 +1414,8 @@ static void reads_alike(int line) {
     PLAIN(line, r, q, count);
     lists_alike(line);
     runs_alike(line);
+    for (size_t i = 0; i + 3 <= sizeof slots / sizeof *slots; i++)
+        for (size_t k = 0; k <= 3; k++) sets_alike(line, slots + i, k);
     WINDOWS_KEPT(line);
 }
 
@@ -1402,6 +1505,8 @@ static void closed_at(int line, size_t h, size_t t, uint64_t n, uint64_t b, uint
     SHUT_AT(card_window_free_runs(THESE, starts, 1, lengths, 1), count);
     SHUT_AT(card_window_map_make(THESE), map.low);
     SHUT_AT(card_window_payload_place(THESE, 0, SIZE_MAX, SIZE_MAX), at);
+    SHUT_AT(card_window_read_label(THESE, 0, rows, 0), label.year);
+    SHUT_AT(card_window_judge(THESE, (const uint32_t[]){0}, 1, rows, 0), slot);
     SHUT(card_window_reader_copy(THESE), back);
     SHUT(card_window_reader_count(THESE), count);
     SHUT(card_window_reader_next(THESE, 0), slot);
@@ -1498,6 +1603,41 @@ static void broken_alike(int line, uint64_t k, size_t i, bool summed, uint32_t n
 }
 #define BROKEN(k, i, summed, number, place, differs) broken_alike(__LINE__, k, i, summed, number, place, differs)
 
+/* The labels of slots 7 and 128 of a card by its windows, and sets of them, with the numbers of the bytes that are handed in. */
+static void labels_by_windows(uint64_t b) {
+    static const uint32_t slots[] = {7, 128, 7};
+    const card_label summer = {2026, 7, 14, 3, 12}, sheet = {2026, 7, 14, 3, 13}, later = {2026, 7, 15, 3, 12};
+    uint8_t labels[39] = {0};
+    SAME(card_write_label(WHOLE, 7, summer).number, 0);
+    SAME(card_write_label(WHOLE, 128, sheet).number, 0);
+    reads_alike(__LINE__);
+    sets_alike(__LINE__, slots, 3);
+    for (size_t i = 0; i < 3; i++) memcpy(labels + 13 * i, whole + card_window_payload_place(WINDOWS, slots[i], 0, 13).at, 13);
+    card_judged j = card_window_judge(WINDOWS, slots, 3, labels, 39);
+    SAME(j.number, 0);
+    SAME(j.day, 14);
+    SAME(j.style, 3);
+    SAME(card_window_read_label(WINDOWS, 128, labels + 13, 13).label.sheet, 13);
+    SAME(card_window_read_label(WINDOWS, 128, labels + 13, 26).label.sheet, 13);
+    NO_LABEL(card_window_read_label(WINDOWS, 128, labels + 13, 12), CARD_SHORT);
+    NO_LABEL(card_window_read_label(WINDOWS, 127, labels, 0), CARD_EMPTY_SLOT);
+    NO_LABEL(card_window_read_label(WINDOWS, 129, labels, 0), CARD_BAD_SLOT);
+    NO_SET(card_window_judge(WINDOWS, slots, 3, labels, 38), CARD_SHORT, 0);
+    NO_SET(card_window_judge(WINDOWS, slots, 2, labels, 39), CARD_SHORT, 0);
+    NO_SET(card_window_judge(WINDOWS, slots, 0, labels, 39), CARD_EMPTY_LIST, 0);
+    NO_SET(card_window_judge(head, 0, tail, 0, many, 513, slots, 0, labels, 0), CARD_BAD_BLOCK_SIZE, 0);
+    NO_SET(card_window_judge(head, 0, tail, 0, many, b, slots, 0, labels, 0), CARD_EMPTY_LIST, 0);
+    NO_SET(card_window_judge(head, 0, tail, 0, many, b, slots, 1, labels, 0), CARD_WINDOW_LENGTH, 0);
+    labels[26 + 8] = 15;
+    NO_SET(card_window_judge(WINDOWS, slots, 3, labels, 39), CARD_TWO_DATES, 7);
+    labels[13] = 'f';
+    NO_SET(card_window_judge(WINDOWS, slots, 3, labels, 39), CARD_BAD_MARK, 128);
+    SAME(card_write_label(WHOLE, 128, later).number, 0);
+    sets_alike(__LINE__, slots, 3);
+    memset(whole + card_window_payload_place(WINDOWS, 7, 0, 13).at, 0xC3, 13);
+    memset(whole + card_window_payload_place(WINDOWS, 128, 0, 13).at, 0xC3, 13);
+}
+
 /* A small card of n blocks of b bytes, its middle full of other bytes: each call on its windows does what the call on the image does. */
 static void windows_beside(uint64_t b, uint64_t n) {
     windows_of(b, n);
@@ -1525,6 +1665,7 @@ static void windows_beside(uint64_t b, uint64_t n) {
     SAME(card_window_payload_place(WINDOWS, 8, 0, 0).number, CARD_EMPTY_SLOT);
     SAME(card_window_payload_place(WINDOWS, 7, b - 2, 3).number, CARD_PAST_PARTITION);
     SAME(card_window_payload_place(WINDOWS, 7, b - 3, 3).at, (a + 3) * b + b - 3);
+    labels_by_windows(b);
     const struct {
         const gpt_partition *record;
         uint32_t slot, number, names;
@@ -1651,6 +1792,8 @@ int main(void) {
     lists();
     free_ground();
     maps();
+    labels();
+    sets();
     readers();
     stages();
     no_stages();

@@ -55,6 +55,9 @@ static void map_put(void) { number = card_map_put(img, LEN, BLOCK, 64, in_block(
 static void map_clear(void) { number = card_map_clear(img, LEN, BLOCK, 64, (card_slot_map){0, 0}).answer.number; }
 static void map_lowest_free(void) { number = card_map_lowest_free((card_slot_map){1, 0}).number; }
 static void map_used(void) { number = card_map_used((card_slot_map){0, 0}); }
+static void read_label(void) { number = card_read_label(img, LEN, BLOCK, 64).number; }
+static void write_label(void) { number = card_write_label(img, LEN, BLOCK, 64, (card_label){2026, 7, 14, 1, 1}).number; }
+static void judge(void) { number = card_judge(img, LEN, BLOCK, (const uint32_t[]){64, 64}, 2).number; }
 static void reader_copy(void) { number = card_reader_copy(img, LEN, BLOCK).number; }
 static void reader_count(void) { number = card_reader_count(img, LEN, BLOCK).number; }
 static void reader_next(void) { number = card_reader_next(img, LEN, BLOCK, 64).number; }
@@ -84,6 +87,9 @@ static void window_nth_used(void) { number = card_window_nth_used(WINDOWS, 100).
 static void window_list(void) { number = card_window_list(WINDOWS, (uint8_t *)rows, sizeof rows).number; }
 static void window_free_runs(void) { number = card_window_free_runs(WINDOWS, starts, CARD_RUNS, lengths, CARD_RUNS).number; }
 static void window_map_make(void) { number = card_window_map_make(WINDOWS).number; }
+static const uint8_t handed[26] = {'F', 'B', 'M', 1, 0, 234, 7, 7, 14, 1, 0, 1, 0, 'F', 'B', 'M', 1, 0, 234, 7, 7, 14, 1, 0, 1, 0};
+static void window_read_label(void) { number = card_window_read_label(WINDOWS, 64, handed, 13).number; }
+static void window_judge(void) { number = card_window_judge(WINDOWS, (const uint32_t[]){64, 64}, 2, handed, 26).number; }
 static void window_payload_place(void) { number = card_window_payload_place(WINDOWS, 64, 100, 128).number; }
 static void window_reader_copy(void) { number = card_window_reader_copy(WINDOWS).number; }
 static void window_reader_count(void) { number = card_window_reader_count(WINDOWS).number; }
@@ -161,11 +167,12 @@ typedef struct kind {
 static const kind kinds[] = {
     KIND(lay), KIND(check), KIND(put), KIND(clear), KIND(payload), KIND(count_used), KIND(next_used), KIND(read_slot), KIND(nth_used), KIND(list), KIND(free_runs),
     KIND(map_make), KIND(map_put), KIND(map_clear), KIND(map_lowest_free), KIND(map_used),
+    KIND(write_label), KIND(read_label), KIND(judge),
     KIND(reader_copy), KIND(reader_count), KIND(reader_next), KIND(reader_slot), KIND(reader_list),
     KIND(start_put), KIND(start_clear), KIND(next_stage), KIND(start_repair), KIND(next_repair), KIND(last_repair),
     KIND(payload_place), KIND(read_payload), KIND(window_lay), KIND(window_check), KIND(window_put), KIND(window_clear), KIND(window_count_used),
     KIND(window_next_used), KIND(window_read_slot), KIND(window_nth_used), KIND(window_list), KIND(window_free_runs), KIND(window_map_make),
-    KIND(window_payload_place), KIND(window_reader_copy), KIND(window_reader_count), KIND(window_reader_next), KIND(window_reader_slot), KIND(window_reader_list),
+    KIND(window_payload_place), KIND(window_read_label), KIND(window_judge), KIND(window_reader_copy), KIND(window_reader_count), KIND(window_reader_next), KIND(window_reader_slot), KIND(window_reader_list),
     KIND(window_start_put), KIND(window_start_clear), KIND(window_next_stage), KIND(window_start_repair), KIND(window_next_repair), KIND(window_last_repair),
     KIND(crc32), KIND(crc32_next), KIND(read_primary), KIND(read_backup), KIND(find_backup), KIND(parts_sum), KIND(slot_sum), KIND(write_primary),
     KIND(write_backup), KIND(build), KIND(build_new), KIND(from_bytes), KIND(to_bytes), KIND(flags_of), KIND(flags_bits), KIND(is_used), KIND(sectors), KIND(bytes), KIND(bytes_start),
@@ -183,11 +190,12 @@ static void must(bool fact, const char *what) {
     exit(EXIT_FAILURE);
 }
 
-/* Lays the card again: all 128 slots used, in descending blocks, so that the check compares each with those before it. The windows and
+/* Lays the card again: all 128 slots used, in descending blocks, so that the check compares each with those before it, and a label in slot 64. The windows and
    the states come from copies of it. */
 static void fill(void) {
     lay();
     for (uint32_t slot = 1; slot <= 128; slot++) must(card_put(img, LEN, BLOCK, slot, in_block(162 - slot)).number == 0, "a put was refused");
+    must(card_write_label(img, LEN, BLOCK, 64, (card_label){2026, 7, 14, 1, 1}).number == 0, "a label was refused");
     header = gpt_read_primary_header(img, LEN, BLOCK).header;
     backup = gpt_read_backup_header(img, LEN, BLOCK).header;
     memcpy(spare, img, LEN);

@@ -7,6 +7,7 @@ import headers
 import images
 import maps
 import model
+import screens
 import states
 from draws import BAD_BLOCK_SIZES, ENTRY_SIZES, SLOTS
 from entries import Flags, record_from
@@ -269,6 +270,9 @@ ON_IMAGE = {
     "card_write_payload": payload,
     "card_payload_place": payload_place,
     "card_read_payload": payload,
+    "card_read_label": screens.read_call,
+    "card_write_label": screens.write_call,
+    "card_judge": screens.judge_call,
     "card_count_used": size_only,
     "card_next_used": size_and_slot,
     "card_read_slot": size_and_slot,

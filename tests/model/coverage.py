@@ -62,6 +62,11 @@ NUMBERS = {
     "card_window_start_repair": WINDOW | READER,
     "card_window_next_repair": {0, 1, 26, 32},
     "card_window_payload_place": WINDOW | CHECK | {18, 23, 24},
+    "card_read_label": CHECK | {18, 23, 34, 35, 36},
+    "card_write_label": CHECK | {18, 23, 36},
+    "card_judge": CHECK | {38, 18, 23, 34, 35, 36, 37},
+    "card_window_read_label": WINDOW | CHECK | {18, 23, 2, 34, 35, 36},
+    "card_window_judge": WINDOW | CHECK | {38, 2, 18, 23, 34, 35, 36, 37},
     "gpt_crc32": {0},
     "gpt_crc32_next": {0},
     "gpt_read_primary_header": {0, 1, 2, 4, 5},
@@ -153,7 +158,14 @@ PRODUCTS = {(3, step) for step in ("start product", "index product", "sum of the
 WRITES = {(3, "array start"), (2, "array"), (3, "own place"), (2, "own place")}
 BUILDS = {(3, "count times size"), (10, "backup too early"), (10, "first above last"), (3, "array start")}
 LENGTHS = {(32, "head"), (32, "tail")}
+NO_DATES = {(36, "month"), (36, "day")}
+TWO_DATES = {(37, "date"), (37, "style revision")}
 STEPS = {name: LENGTHS for name in WINDOWED} | {
+    "card_read_label": NO_DATES,
+    "card_write_label": NO_DATES,
+    "card_judge": NO_DATES | TWO_DATES,
+    "card_window_read_label": LENGTHS | NO_DATES,
+    "card_window_judge": LENGTHS | NO_DATES | TWO_DATES,
     "card_window_put": LENGTHS | PUT_STEPS,
     "card_window_free_runs": LENGTHS | {(15, "starts"), (15, "lengths")},
     "card_window_next_stage": LENGTHS | REPAIR_STEPS | {(26, "no such slot")},

@@ -4,6 +4,7 @@ A case of a window call holds the image as every case does, and in front of its 
 which block count is stated. The image of a card that is larger than memory has the card's first and last blocks, and hardly a middle.
 """
 
+import struct
 from collections import namedtuple
 
 import model
@@ -11,6 +12,7 @@ import stages
 
 ARRAY = 16384
 SIZES = (512, 4096)
+LABEL = 13
 WINDOW = "card_window_"
 Cut = namedtuple("Cut", "b blocks head tail")
 
@@ -60,6 +62,24 @@ def window_name(name):
     return other if other in model.CALLS else None
 
 
+def label_at(image, b, slot):
+    """The first 13 bytes of a slot's partition, by the front table's entry; zeros where the image ends, or if there is no such slot."""
+    entry = 2 * b + 128 * (slot - 1)
+    if not 1 <= slot <= 128 or len(image) < entry + 128:
+        return bytes(LABEL)
+    start = struct.unpack_from("<Q", image, entry + 32)[0] * b
+    return image[start : start + LABEL].ljust(LABEL, b"\0")
+
+
+def labels_of(name, image, b, rest):
+    """Document 02, 13/13: the bytes that a window call on labels takes last, as the image has them; other calls take none."""
+    if name == "card_window_read_label":
+        return (label_at(image, b, rest[0]),)
+    if name == "card_window_judge":
+        return (b"".join(label_at(image, b, slot) for (slot,) in struct.iter_unpack("<I", rest[0])),)
+    return ()
+
+
 def moved(value, by):
     """A state with another length: an image has odd bytes after its last whole block, and windows have none. Other values stay."""
     if not isinstance(value, (stages.Update, stages.Repair)) or value.len + by < 0:
@@ -80,19 +100,20 @@ class OverWindows:
 
     def __getitem__(self, name):
         other = window_name(name)
-        return (lambda image, b, *rest: self.over(other, image, b, rest)) if other else self.calls[name]
+        lent = len(model.CALLS[name].lent)
+        return (lambda image, b, *rest: self.over(other, image, b, rest, lent)) if other else self.calls[name]
 
-    def over(self, name, image, b, rest):
-        """One window call on an image, answered as the image call would."""
+    def over(self, name, image, b, rest, lent):
+        """One window call on an image, answered as the image call would, with as many lent buffers as that one has."""
         true = b if b in SIZES else SIZES[0]
         cut = cut_of(image, true)
         if len(image) < sum(cut[2:]):
             cut = cut._replace(head=len(image), tail=0)
         odd = len(image) % true
-        args = (cut, b, *(moved(value, -odd) for value in rest))
+        args = (cut, b, *(moved(value, -odd) for value in rest), *labels_of(name, image, true, rest))
         number, values, buffers, where = self.ask(name, image, args)
         values = values if number else tuple(moved(value, odd) for value in values)
-        return number, values, (left(name, image, args, buffers), *buffers[2:]), where
+        return number, values, (left(name, image, args, buffers), *buffers[2:][: lent - 1]), where
 
 
 def over_windows(calls):

@@ -6,6 +6,7 @@ import ends
 import entries
 import fixed_flags
 import fixed_ground
+import fixed_labels
 import fixed_maps
 import fixed_payload
 import fixed_places
@@ -15,6 +16,7 @@ import fixed_states
 import fixed_twins
 import fixed_uefi
 import fixed_update
+import fixed_window_labels
 import fixed_window_stages
 import fixed_windows
 import ground
@@ -112,9 +114,10 @@ def card_cases(calls):
 
 
 PULLED = (*fixed_reader.GROUPS, *fixed_update.GROUPS, *fixed_states.GROUPS, *fixed_repair.GROUPS)
-WINDOWS = (*fixed_windows.GROUPS, *fixed_window_stages.GROUPS, *fixed_payload.GROUPS)
-ON_CARDS = (card_cases, *fixed_twins.GROUPS, *fixed_flags.GROUPS, *fixed_places.GROUPS, fixed_ground.ground_cases, fixed_maps.map_cases, *PULLED)
-GROUPS = (built_fields, small_cases, running_cases, *ON_CARDS, *fixed_uefi.GROUPS, *WINDOWS)
+WINDOWS = (*fixed_windows.GROUPS, *fixed_window_stages.GROUPS, *fixed_window_labels.GROUPS)
+SLOTS = (*fixed_twins.GROUPS, *fixed_flags.GROUPS, *fixed_places.GROUPS, fixed_ground.ground_cases, fixed_maps.map_cases, *fixed_labels.GROUPS)
+ON_CARDS = (card_cases, *SLOTS, *PULLED)
+GROUPS = (built_fields, small_cases, running_cases, *ON_CARDS, *fixed_uefi.GROUPS, *fixed_payload.GROUPS, *WINDOWS)
 
 
 def wrong_in(groups, calls, before=""):
@@ -140,10 +143,9 @@ def wrong_ways():
     """What the model answers otherwise if it puts no whole image together for its windows and counts no block one by one, as it does on
     large cards; or if the middle of its whole images has other bytes."""
     kept = windows.FEW, windows.TILE, ground.MANY
-    groups = (*fixed_windows.GROUPS, *fixed_window_stages.GROUPS)
     again = (*fixed_places.GROUPS, fixed_ground.ground_cases, *fixed_reader.GROUPS, fixed_update.foreign_cases, fixed_repair.stage_cases)
     for windows.FEW, windows.TILE, ground.MANY in ((0, kept[1], 0), (kept[0], bytes(1), kept[2])):
-        yield from wrong_in(groups, model.CALLS, "the other way, ")
+        yield from wrong_in(WINDOWS, model.CALLS, "the other way, ")
         yield from wrong_in(again, ends.over_windows(model.CALLS), "the other way, over windows, ")
     windows.FEW, windows.TILE, ground.MANY = kept
 

@@ -8,6 +8,7 @@ import maps
 from entries import record_bytes, record_from
 from known import own_guid, record
 from known_copies import FREE, SIZES, at, card, damages, filled, first_usable, harmless, room, with_entry
+from labels import Label
 from stages import NO_UPDATE
 from sums import crc32
 from units import NIL, NOWHERE, guid_bytes
@@ -135,6 +136,7 @@ def plain_calls(b):
         "card_write_payload": (b, 2, 0, b"map"),
         "card_payload_place": (b, 2, 0, 3),
         "card_read_payload": (b, 2, 0, b"map"),
+        "card_write_label": (b, 2, Label(2024, 5, 17, 3, 1)),
         "card_count_used": (b,),
         "card_next_used": (b, 0),
         "card_read_slot": (b, 2),

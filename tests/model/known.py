@@ -4,6 +4,7 @@ import entries
 import images
 import maps
 import model
+from labels import Label
 from units import Guid, guid_bytes, guid_from
 
 GUID = guid_from(bytes(range(16)))
@@ -76,6 +77,9 @@ def checked_calls(slot, held):
         "card_write_payload": (B, slot, 0, b"map"),
         "card_payload_place": (B, slot, 0, 3),
         "card_read_payload": (B, slot, 0, b"map"),
+        "card_read_label": (B, slot),
+        "card_write_label": (B, slot, Label(2024, 5, 17, 3, 1)),
+        "card_judge": (B, bytes([slot, 0, 0, 0])),
         "card_count_used": (B,),
         "card_next_used": (B, 0),
         "card_read_slot": (B, slot),

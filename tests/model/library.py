@@ -7,6 +7,7 @@ from ctypes import POINTER, c_size_t, c_uint8, c_uint16, c_uint32, c_uint64
 import builder
 import entries
 import headers
+import labels
 import maps
 import mbr
 import stages
@@ -16,7 +17,8 @@ from units import NOWHERE
 GUARD = b"\xa5" * 32
 LENT = "a lent slice: a pointer, then a length"
 ROW_LENT = "a lent row of 64-bit numbers: a pointer, then a count"
-LENT_KINDS = {LENT: (c_uint8, 1), ROW_LENT: (c_uint64, 8)}
+LIST_LENT = "a lent list of 32-bit numbers: a pointer, then a count"
+LENT_KINDS = {LENT: (c_uint8, 1), ROW_LENT: (c_uint64, 8), LIST_LENT: (c_uint32, 4)}
 SHAPES = {}
 
 
@@ -311,9 +313,33 @@ DECLARED |= {
     "card_read_payload": (CARD_STORED, LENT, c_uint64, c_uint32, c_size_t, LENT),
 }
 
+# Document 02, 13/13: all that card.h says of labels and screen sets.
+LABEL = structure(
+    "card_label",
+    8,
+    [("year", c_uint16, 0), *fields_of(c_uint8, "month", "day", start=2), *fields_of(c_uint16, "style", "sheet", start=4)],
+    labels.Label,
+)
+LABEL_READ = answer("card_label_read", 20, *fields_of(c_uint32, "place", "differs", start=4), ("label", LABEL, 12))
+JUDGED = answer(
+    "card_judged",
+    24,
+    *fields_of(c_uint32, "slot", "place", "differs", start=4),
+    ("year", c_uint16, 16),
+    *fields_of(c_uint8, "month", "day", start=18),
+    ("style", c_uint16, 20),
+)
+DECLARED |= {
+    "card_read_label": (LABEL_READ, LENT, c_uint64, c_uint32),
+    "card_write_label": (CARD_ANSWER, LENT, c_uint64, c_uint32, LABEL),
+    "card_judge": (JUDGED, LENT, c_uint64, LIST_LENT),
+    "card_window_read_label": (LABEL_READ, *WINDOWS, c_uint32, LENT),
+    "card_window_judge": (JUDGED, *WINDOWS, LIST_LENT, LENT),
+}
+
 
 class Lent:
-    """A copy of some bytes with guard bytes on both sides, at an address that need not be even, or at one for 64-bit numbers."""
+    """A copy of some bytes with guard bytes on both sides, at an address that need not be even, or at one for a row of numbers."""
 
     def __init__(self, data, kind):
         self.item, self.size = LENT_KINDS[kind]

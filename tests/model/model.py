@@ -5,6 +5,7 @@ import card
 import entries
 import ground
 import headers
+import labels
 import maps
 import mbr
 import payload
@@ -14,5 +15,5 @@ import sums
 import uefi
 import windows
 
-PARTS = (card, ground, maps, stages, reader, payload, windows, sums, headers, builder, entries, uefi, mbr)
+PARTS = (card, ground, maps, stages, reader, payload, windows, labels, sums, headers, builder, entries, uefi, mbr)
 CALLS = {name: function for part in PARTS for name, function in vars(part).items() if hasattr(function, "lent")}

@@ -167,6 +167,7 @@ class Rounds:
             self.ask_hurt(steps, image, b, damage.damage(draw, image, b))
         pulled.ask_pulled(self, steps, image, b)
         wide.ask_whole(self, steps, image, b)
+        wide.ask_labels(self, steps, image, b)
         wide.ask_large(self, b)
         rare.ask(self, steps, image, b)
         for _ in range(4):

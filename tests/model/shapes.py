@@ -6,6 +6,7 @@ import cases
 import coverage
 import library
 import model
+import screens
 import states
 import wide
 from draws import Draw
@@ -26,6 +27,7 @@ def wrong_values(rounds=100):
             (library.MBR, draw.mbr()),
             (library.UPDATE, states.update(draw, bytes(rounds), 512)),
             (library.REPAIR, states.repair(draw, bytes(rounds), 4096)),
+            (library.LABEL, screens.label(draw, draw.pick(screens.DATES))),
         ):
             back = library.plain(kind, library.native(kind, value))
             if back != value:

@@ -8,6 +8,7 @@ import ends
 import images
 import model
 import pulled
+import screens
 import states
 from units import ALL_64, NIL
 
@@ -105,6 +106,8 @@ OWN = {
     "card_window_payload_place": place_call,
     "card_window_next_stage": stage_call(states.update),
     "card_window_next_repair": stage_call(states.repair),
+    "card_window_read_label": screens.window_read_call,
+    "card_window_judge": screens.window_judge_call,
 }
 # The arguments after the cut of every window call, block size first.
 ON_WINDOWS = {ends.window_name(name): OWN.get(ends.window_name(name), as_image_call(name)) for name in ALIKE}
@@ -146,6 +149,19 @@ def some_card(rounds, b):
         record = record._replace(first_lba=first + 3 * place, last_lba=first + 3 * place + draw.below(2))
         image = rounds.change(steps, image, "card_put", (b, slot, record))
     return steps, image
+
+
+def ask_labels(rounds, steps, image, b):
+    """Labels and screen sets on an image whose maps have labels, with one date mostly: by the image, by its windows, and by both alike."""
+    if len(images.used_blocks(image, b)) < 2 or model.CALLS["card_check"](image, b)[0]:
+        steps, image = some_card(rounds, b)
+    hurt = screens.labelled(rounds.draw, image, b)
+    image, steps = images.made_from(image, hurt), steps + hurt
+    for name in ("card_read_label", "card_read_label", "card_write_label", "card_judge", "card_judge", "card_judge"):
+        rounds.judge(steps, image, name, cases.ON_IMAGE[name](rounds.draw, image, b))
+    for name in ("card_window_read_label", "card_window_read_label", "card_window_judge", "card_window_judge", "card_window_judge"):
+        rounds.judge(steps, image, name, arguments(rounds.draw, image, b, name))
+    ask_alike(rounds, steps, image, b, 3, ("card_judge", "card_judge", "card_read_label"))
 
 
 def ask_cut(rounds, steps, image, b):

@@ -242,6 +242,61 @@ class Payload(unittest.TestCase):
         self.assertEqual(bytes(room[1 + 34 * 512:1 + 34 * 512 + 3]), b"<>\0")
 
 
+class Labels(unittest.TestCase):
+    LABEL = card.Label(2026, 7, 14, style=3, sheet=1)
+
+    def labelled(self):
+        """A card with labels in slots 2, 3 and 4 (the last of another style revision), and slot 5 without one."""
+        image = laid()
+        for slot in (2, 3, 4, 5):
+            card.put(image, 512, slot, record(40 + slot, 40 + slot))
+        for slot, changed in ((2, {}), (3, {"sheet": 2}), (4, {"style": 4})):
+            card.write_label(image, 512, slot, card.replace(self.LABEL, **changed))
+        return image
+
+    def test_a_label_is_written_and_read(self):
+        image = self.labelled()
+        before = bytes(image)
+        card.write_label(image, 512, 5, card.Label(0x07EA, 12, 31, 0x0102, 0x0304))
+        at = 45 * 512
+        self.assertEqual(image[at : at + 13], b"FBM\x01\x00\xea\x07\x0c\x1f\x02\x01\x04\x03")
+        self.assertEqual(card.read_label(bytes(image), 512, 5), card.Label(0x07EA, 12, 31, 0x0102, 0x0304))
+        image[at : at + 13] = before[at : at + 13]
+        self.assertEqual(image, before)
+
+    def test_refused_labels(self):
+        image = self.labelled()
+        before = bytes(image)
+        wrong = [(18, 0, {}), (23, 1, {"day": 0}), (36, 2, {"month": 0}), (36, 2, {"month": 13}), (36, 2, {"day": 0}), (36, 2, {"day": 32})]
+        for number, slot, changed in wrong:
+            with self.assertRaises(card.Refused) as refused:
+                card.write_label(image, 512, slot, card.replace(self.LABEL, **changed))
+            self.assertEqual(refused.exception.number, number)
+        for number, slot in ((18, 129), (23, 1), (34, 5)):
+            with self.assertRaises(card.Refused) as refused:
+                card.read_label(image, 512, slot)
+            self.assertEqual(refused.exception.number, number)
+        self.assertEqual(image, before)
+        image[42 * 512 + 4] = 1
+        with self.assertRaisesRegex(card.Refused, "35, UnknownVersion"):
+            card.read_label(image, 512, 2)
+        with self.assertRaises(ValueError):
+            card.write_label(image, 512, 2, card.replace(self.LABEL, month=256))
+
+    def test_a_set_has_one_date(self):
+        image = self.labelled()
+        for slots in ([2, 3], [3, 2], (2, 2, 3, 2), range(2, 4)):
+            self.assertEqual(card.judge(image, 512, slots), card.Dated(2026, 7, 14, 3))
+        for slots, number, slot in (([], 38, 0), ([2, 0, 1], 18, 0), ([1, 129], 23, 1), ([3, 5, 0], 34, 5), ([2, 3, 4, 5], 37, 4), ([4, 2], 37, 2)):
+            with self.assertRaises(card.Refused) as refused:
+                card.judge(image, 512, slots)
+            self.assertEqual((refused.exception.number, refused.exception.slot), (number, slot))
+        with self.assertRaisesRegex(card.Refused, r"two dates or two style revisions \(slot 4\)"):
+            card.judge(image, 512, [2, 4])
+        with self.assertRaisesRegex(card.Refused, "refused 8, "):
+            card.judge(b"", 512, [2])
+
+
 class Arguments(unittest.TestCase):
     def test_a_name_with_a_zero_is_refused(self):
         image = filled()

@@ -126,6 +126,25 @@ class Files(unittest.TestCase):
             self.assertEqual(self.path.read_bytes(), bytes(image))
             self.assertEqual((file.blocks, file.block_size, file.writable), (blocks + 19, size, True))
 
+    def test_labels_of_a_file_are_those_of_the_image(self):
+        label = card.Label(0xE7E6, 12, 31, style=0xD7D6, sheet=9)
+        for size, blocks, usable in SMALLEST:
+            image = bytearray(b"\xa5") * ((blocks + 9) * size)
+            with self.opened(image, size) as file:
+                file.lay(DISK)
+                card.lay(image, size, DISK)
+                for slot, block in ((1, usable + 1), (2, usable + 2), (3, usable + 3), (128, usable)):
+                    file.put(slot, record(block, block))
+                    card.put(image, size, slot, record(block, block))
+                for slot, changed in ((1, {}), (2, {"sheet": 8}), (3, {"style": 1}), (4, {}), (0, {}), (1, {"month": 13}), (129, {"day": 0})):
+                    l = card.replace(label, **changed)
+                    self.assertEqual(answer(lambda: file.write_label(slot, l)), answer(lambda: card.write_label(image, size, slot, l)), (slot, changed))
+                for slot in (0, 1, 2, 3, 4, 128, 129):
+                    self.assertEqual(answer(lambda: file.read_label(slot)), answer(lambda: card.read_label(image, size, slot)), slot)
+                for slots in ([], [1], [1, 2, 1], [2, 1, 2], [1, 2, 3], [3, 1], [1, 4], [1, 0, 3], [128], [1, 128], [1, 1, 3, 3]):
+                    self.assertEqual(answer(lambda: file.judge(slots)), answer(lambda: card.judge(image, size, slots)), slots)
+            self.assertEqual(self.path.read_bytes(), bytes(image))
+
     def test_only_the_windows_and_the_payload_are_touched(self):
         for size, least, usable in SMALLEST:
             entries, blocks = 16384 // size, least + 2000

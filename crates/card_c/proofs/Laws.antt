@@ -16,10 +16,12 @@ use Rattle.ground.specs.Answers.{Rows, RowsEnd}
 use Rattle.slot_map.specs.declared.SlotMap.{SlotMap}
 use Rattle.slot_map.specs.Bits.{mapOf}
 use Rattle.slot_map.proofs.BitLaws.{map-none}
+use Rattle.label.specs.declared.Dated.{Dated}
+use Rattle.label.specs.Judging.{SetAnswer, oneDate, refusedAt}
 use Rattle.windows.specs.Windows.{whole, windowCheck, windowAnswer, Windowed, WindowEnds}
 use Rattle.card_c.specs.declared.answers.CardAnswer.{CardAnswer}
 use Rattle.card_c.specs.Exports.{outcomeToC, rowsToC, crossed, aside, countToC, answered, entryParsed}
-use Rattle.card_c.specs.CardExports.{whyToC, crossedAt, asideAt, mapBits, madeTold, MadeToC}
+use Rattle.card_c.specs.CardExports.{whyToC, crossedAt, asideAt, mapBits, madeTold, MadeToC, judgedMade, judgedToC}
 use Rattle.card_c.specs.Windows.{windowToC}
 
 module _ {A S : Type 0} (make : ℕ → A → S) (z : A) where
@@ -77,6 +79,16 @@ module _ (a : Answer (List Bool)) where
   pub map-no : {w : Why} {k : CardAnswer} → a ≡ refused w → k ≡ whyToC w → MadeToC a (record { number = k .number; place = k .place; differs = k .differs; map = record { low = 0; high = 0 } })
   unfolding mapBits
   map-no {w} {k} e q = told-map k (record { low = 0; high = 0 }) (card-no (λ k bs. k) [] a e q) (map-none ∙ sym (ap mapBits e))
+
+-- and of a set that is judged, whose refusal comes with a slot of the list
+module _ (a : SetAnswer) where
+  pub judged-fine : {d : Dated} → a ≡ oneDate d → judgedMade 0 (whyToC fine) d ≡ judgedToC a
+  unfolding crossedAt
+  judged-fine e = sym (ap judgedToC e)
+
+  pub judged-no : {w : Why} {s : ℕ} {k : CardAnswer} → a ≡ refusedAt w s → k ≡ whyToC w → judgedMade s k (record { year = 0; month = 0; day = 0; style = 0 }) ≡ judgedToC a
+  unfolding crossedAt
+  judged-no {w} {s} e q = ap (λ (i : CardAnswer). judgedMade s i (record { year = 0; month = 0; day = 0; style = 0 })) q ∙ sym (ap judgedToC e)
 
 -- the answer that stands behind a verdict with a value beside it
 pub answered-beside : {A : Type 0} (z : A) (a : Answer A) → answered (beside z a) ≡ a

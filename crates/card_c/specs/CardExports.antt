@@ -21,6 +21,9 @@ use Rattle.slot_map.specs.Bits.{mapOf}
 use Rattle.staged.specs.declared.Update.{Update}
 use Rattle.staged.specs.declared.Repair.{Repair}
 use Rattle.staged.specs.Meanings.{zeroUpdate}
+use Rattle.label.specs.declared.Label.{Label}
+use Rattle.label.specs.declared.Dated.{Dated}
+use Rattle.label.specs.Judging.{SetAnswer}
 use Rattle.card_c.specs.declared.answers.CardAnswer.{CardAnswer}
 use Rattle.card_c.specs.declared.answers.CardStored.{CardStored}
 use Rattle.card_c.specs.declared.answers.CardSpot.{CardSpot}
@@ -28,6 +31,8 @@ use Rattle.card_c.specs.declared.answers.CardCount.{CardCount}
 use Rattle.card_c.specs.declared.answers.CardNext.{CardNext}
 use Rattle.card_c.specs.declared.answers.CardSlotRead.{CardSlotRead}
 use Rattle.card_c.specs.declared.answers.CardUsedRead.{CardUsedRead}
+use Rattle.card_c.specs.declared.labels.CardLabelRead.{CardLabelRead}
+use Rattle.card_c.specs.declared.labels.CardJudged.{CardJudged}
 use Rattle.card_c.specs.declared.maps.CardMapMade.{CardMapMade}
 use Rattle.card_c.specs.declared.maps.CardCarried.{CardCarried}
 use Rattle.card_c.specs.declared.pulled.CardUpdateStep.{CardUpdateStep}
@@ -141,3 +146,18 @@ repairMade k r = record { number = k .number; slot = k .slot; place = k .place; 
 
 abbrev pub repairToC : Answer Repair → CardRepairStep
 repairToC a = crossedAt repairMade zeroRepair a
+
+-- ---- the labels of maps: the label, or the date and style revision of a set, zero beside a refusal
+
+abbrev pub labelMade : CardAnswer → Label → CardLabelRead
+labelMade k l = record { number = k .number; place = k .place; differs = k .differs; label = l }
+
+abbrev pub labelToC : Answer Label → CardLabelRead
+labelToC a = crossedAt labelMade (record { year = 0; month = 0; day = 0; style = 0; sheet = 0 }) a
+
+-- with the slot of the list that the refusal names
+abbrev pub judgedMade : ℕ → CardAnswer → Dated → CardJudged
+judgedMade s k d = record { number = k .number; slot = s; place = k .place; differs = k .differs; year = d .year; month = d .month; day = d .day; style = d .style }
+
+abbrev pub judgedToC : SetAnswer → CardJudged
+judgedToC a = crossedAt (judgedMade (a .slot)) (record { year = 0; month = 0; day = 0; style = 0 }) (a .answer)

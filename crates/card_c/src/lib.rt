@@ -9,6 +9,7 @@ mod cards; // cards.rt: the card calls
 mod entries; // entries.rt: partition entries
 mod grounds; // grounds.rt: the free ground
 mod headers; // headers.rt: headers and the check sum
+mod labels; // labels.rt: the labels of maps
 mod maps; // maps.rt: the slot map
 mod mbrs; // mbrs.rt: the protective MBR
 mod pulled; // pulled.rt: the reader of a pulled card, and put, clear and repair in stages

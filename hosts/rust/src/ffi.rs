@@ -106,6 +106,9 @@ structs! {
     card_slot_map 16 { 0 low: u64, 8 high: u64 }
     card_map_made 32 { 0 number: u32, 4 place: u32, 8 differs: u32, 16 map: card_slot_map }
     card_carried 32 { 0 answer: card_answer, 16 map: card_slot_map }
+    card_label 8 { 0 year: u16, 2 month: u8, 3 day: u8, 4 style: u16, 6 sheet: u16 }
+    card_label_read 20 { 0 number: u32, 4 place: u32, 8 differs: u32, 12 label: card_label }
+    card_judged 24 { 0 number: u32, 4 slot: u32, 8 place: u32, 12 differs: u32, 16 year: u16, 18 month: u8, 19 day: u8, 20 style: u16 }
     card_copy 8 { 0 number: u32, 4 back: u8 }
     card_update 176 { 0 next: u32, 4 slot: u32, 8 b: u64, 16 len: usize, 24 entry: [u8; 128], 152 guid: gpt_guid, 168 parts: u32 }
     card_update_step 192 { 0 number: u32, 4 slot: u32, 8 place: u32, 12 differs: u32, 16 state: card_update }
@@ -148,6 +151,11 @@ functions! {
     fn card_map_clear(img: *mut u8, img_len: usize, b: u64, slot: u32, map: card_slot_map) -> card_carried;
     fn card_map_lowest_free(map: card_slot_map) -> gpt_next;
     fn card_map_used(map: card_slot_map) -> u32;
+    fn card_read_label(img: *const u8, img_len: usize, b: u64, slot: u32) -> card_label_read;
+    fn card_write_label(img: *mut u8, img_len: usize, b: u64, slot: u32, label: card_label) -> card_answer;
+    fn card_judge(img: *const u8, img_len: usize, b: u64, slots: *const u32, slots_len: usize) -> card_judged;
+    fn card_window_read_label(head: *const u8, head_len: usize, tail: *const u8, tail_len: usize, blocks: u64, b: u64, slot: u32, label: *const u8, label_len: usize) -> card_label_read;
+    fn card_window_judge(head: *const u8, head_len: usize, tail: *const u8, tail_len: usize, blocks: u64, b: u64, slots: *const u32, slots_len: usize, labels: *const u8, labels_len: usize) -> card_judged;
     fn card_reader_copy(img: *const u8, img_len: usize, b: u64) -> card_copy;
     fn card_reader_count(img: *const u8, img_len: usize, b: u64) -> gpt_count;
     fn card_reader_next(img: *const u8, img_len: usize, b: u64, after: u32) -> gpt_next;
@@ -271,6 +279,7 @@ mod tests {
             "size_t" => "usize",
             "uint8_t *" => "*mut u8",
             "const uint8_t *" => "*const u8",
+            "const uint32_t *" => "*const u32",
             "uint64_t *" => "*mut u64",
             of_the_header => of_the_header,
         };

@@ -1,7 +1,7 @@
 //! Cards in files and devices of any size: of the card itself only its two windows are in memory, and only their blocks and the payload's own bytes are read and written.
 use crate::pulled::State;
 use crate::windows::Windows;
-use crate::{BlockSize, Guid, Listing, Record, Refused, SlotMap, Table};
+use crate::{BlockSize, Dated, Guid, Label, Listing, Record, Refused, SetRefused, SlotMap, Table};
 use std::io::{self, Cursor, ErrorKind, Read, Seek, SeekFrom, Write};
 use std::{error, fmt, fs::File, ops::RangeInclusive};
 
@@ -11,6 +11,8 @@ use std::{error, fmt, fs::File, ops::RangeInclusive};
 pub enum FileError {
     /// The library refused the call, and nothing was written.
     Refused(Refused),
+    /// The library refused a set of maps; the refusal names the slot.
+    SetRefused(SetRefused),
     /// Reading, writing or storing failed. It says nothing about the card.
     Io(io::Error),
 }
@@ -20,6 +22,7 @@ impl FileError {
     pub fn refused(&self) -> Option<Refused> {
         match self {
             FileError::Refused(refused) => Some(*refused),
+            FileError::SetRefused(set) => Some(set.refused),
             FileError::Io(_) => None,
         }
     }
@@ -30,6 +33,7 @@ impl fmt::Display for FileError {
     fn fmt(&self, f: &mut fmt::Formatter<'_>) -> fmt::Result {
         match self {
             FileError::Refused(refused) => refused.fmt(f),
+            FileError::SetRefused(set) => set.fmt(f),
             FileError::Io(failure) => write!(f, "the card's file: {failure}"),
         }
     }
@@ -39,6 +43,7 @@ impl error::Error for FileError {
     fn source(&self) -> Option<&(dyn error::Error + 'static)> {
         match self {
             FileError::Refused(refused) => Some(refused),
+            FileError::SetRefused(set) => Some(set),
             FileError::Io(failure) => Some(failure),
         }
     }
@@ -47,6 +52,12 @@ impl error::Error for FileError {
 impl From<Refused> for FileError {
     fn from(refused: Refused) -> FileError {
         FileError::Refused(refused)
+    }
+}
+
+impl From<SetRefused> for FileError {
+    fn from(set: SetRefused) -> FileError {
+        FileError::SetRefused(set)
     }
 }
 
@@ -273,6 +284,40 @@ impl<F: Read + Seek> FileCard<F> {
         read_at(&mut self.file, at, out)?;
         Ok(out.len())
     }
+
+    /// The label of a slot's map, of which 13 bytes are read.
+    ///
+    /// # Errors
+    ///
+    /// Refused as [`check`](FileCard::check) is, then by 18, 23, 34, 35, 36; [`FileError::Io`].
+    pub fn read_label(&mut self, slot: u32) -> Result<Label, FileError> {
+        let mut bytes = [0; 13];
+        self.read_payload(slot, 0, &mut bytes)?;
+        Ok(self.tables()?.read_label(slot, &bytes)?)
+    }
+
+    /// The one date and style revision of the maps of a list of slots, of each of which 13 bytes are read before any is judged. The sheet is not compared, and a slot that is named twice is judged as one.
+    ///
+    /// # Errors
+    ///
+    /// [`FileError::SetRefused`] by 38 where the list is empty, then as [`check`](FileCard::check) is; then slot by slot by 18, 23, 34, 35, 36, and by 37 for another date or another
+    /// style revision than the first slot's; [`FileError::Io`].
+    pub fn judge(&mut self, slots: &[u32]) -> Result<Dated, FileError> {
+        let mut labels = vec![0; 13 * slots.len()];
+        for i in 0..slots.len() {
+            // What a slot holds is read once, also where it is named twice.
+            if let Some(first) = slots[..i].iter().position(|slot| *slot == slots[i]) {
+                labels.copy_within(13 * first..13 * first + 13, 13 * i);
+                continue;
+            }
+            match self.read_payload(slots[i], 0, &mut labels[13 * i..13 * i + 13]) {
+                // The judgement refuses this slot too, in its turn.
+                Ok(_) | Err(FileError::Refused(_)) => {}
+                Err(failure) => return Err(failure),
+            }
+        }
+        Ok(self.tables()?.judge(slots, &labels)?)
+    }
 }
 
 fn read_windows(file: &mut (impl Read + Seek), block_size: BlockSize) -> Result<(u64, Windows), FileError> {
@@ -473,6 +518,20 @@ impl<F: Device> FileCard<F> {
         self.same_length()?;
         write_at(&mut self.file, at, bytes)?;
         Ok(bytes.len())
+    }
+
+    /// Writes a label at the start of a slot's partition: 13 bytes, and no other byte changes. That they are stored is [`sync`](FileCard::sync)'s matter.
+    ///
+    /// # Errors
+    ///
+    /// Refused as [`check`](FileCard::check) is, then by 18, 23, 36; [`FileError::Io`], and some of the bytes may be written.
+    pub fn write_label(&mut self, slot: u32, label: Label) -> Result<(), FileError> {
+        let bytes = label.to_bytes();
+        // The library reads the bytes before the file has them: it refuses what it would refuse to write.
+        let read = self.tables()?.read_label(slot, &bytes)?;
+        assert_eq!(read, label, "a label's bytes read back");
+        self.write_payload(slot, 0, &bytes)?;
+        Ok(())
     }
 
     /// Comes back once the device has stored all that was written.

@@ -42,6 +42,7 @@
 //! Every call takes every image and every number. It ends, and accepts or says by [`Refused`] why it does not, and where the card check refused; a refused call changes no byte of the image.
 //! People pull cards in the middle of an update: a put or a clear that may be cut goes by [`Card::start_put`] and [`Card::start_clear`], see [`Staged`]. A card that
 //! was cut is read by [`reader_list`] and mended by [`start_repair`].
+//! Each map's partition begins with a [`Label`]: [`Card::judge`] says whether the maps of a list of slots have one date and one style revision.
 //! A table of another maker, with a longer header or other entries, is read by [`uefi_list`].
 //! All this is proved of the library; that this crate hands the bytes over rightly is not proved, but tested. The ported calls on headers, entries and the MBR are
 //! in [`ffi`], as C has them. [`crc32_next`] is the check sum of bytes that come in pieces.
@@ -57,6 +58,7 @@ mod calls;
 pub mod ffi;
 mod files;
 mod guid;
+mod labels;
 mod maps;
 mod pulled;
 mod record;
@@ -70,6 +72,7 @@ mod windows;
 pub use calls::{check, crc32_next, free_runs, get, list, payload_place, read_payload, BlockSize, Card, Listing, FRESH, SLOTS};
 pub use files::{Device, FileCard, FileError, FileStaged, SyncBy};
 pub use guid::{Guid, GuidError};
+pub use labels::{judge, read_label, Dated, Label, SetRefused};
 pub use maps::SlotMap;
 pub use pulled::{reader_copy, reader_get, reader_list, start_repair, tables_of, Staged, Store, Table};
 pub use record::{Entry, Flags, Name, NameError, Record};

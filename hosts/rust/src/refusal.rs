@@ -4,7 +4,7 @@ use std::{error, fmt};
 /// Declares the refusals of the table once: their numbers, names and meanings. 22 and 25 stand beside them, since they carry a slot.
 macro_rules! refusals {
     ($($number:literal $name:ident: $meaning:literal,)*) => {
-        /// Why a call was refused. A refused call changed no byte of the image. Of the numbers from 34 on no call gives any yet: they come with their change request.
+        /// Why a call was refused. A refused call changed no byte of the image.
         #[derive(Clone, Copy, Debug, PartialEq, Eq, Hash)]
         pub enum Refusal {
             $(#[doc = concat!(stringify!($number), ": ", $meaning, ".")] $name,)*
@@ -98,7 +98,7 @@ refusals! {
     33 TableFull: "all 128 slots are used",
     34 BadMark: "the map does not begin with the mark FBM",
     35 UnknownVersion: "the label's version is not 1",
-    36 BadDate: "the label's month or day does not exist",
+    36 BadDate: "the label's month is not 1 to 12, or its day not 1 to 31",
     37 TwoDates: "the maps have two dates or two style revisions",
     38 EmptyList: "no slot was named",
 }

@@ -2,7 +2,7 @@
 use crate::calls::{rows, runs};
 use crate::pulled::{State, ARRAY};
 use crate::refusal::accepted;
-use crate::{ffi, BlockSize, Guid, Listing, Record, Refusal, Refused, SlotMap, Table};
+use crate::{ffi, labels, BlockSize, Dated, Guid, Label, Listing, Record, Refusal, Refused, SetRefused, SlotMap, Table};
 use std::ops::{Range, RangeInclusive};
 
 /// The head, which is blocks 0 to A + 1, and the tail, which is the last A + 1 blocks, of a card of so many blocks. A is the blocks of an array.
@@ -135,6 +135,14 @@ impl Windows {
         let spot = asked!(self, card_window_payload_place, slot, place, count);
         accepted(spot.number, 0, spot.place, spot.differs)?;
         Ok(spot.at)
+    }
+
+    pub fn read_label(&self, slot: u32, bytes: &[u8]) -> Result<Label, Refused> {
+        labels::label_read(asked!(self, card_window_read_label, slot, bytes.as_ptr(), bytes.len()))
+    }
+
+    pub fn judge(&self, slots: &[u32], bytes: &[u8]) -> Result<Dated, SetRefused> {
+        labels::judged(asked!(self, card_window_judge, slots.as_ptr(), slots.len(), bytes.as_ptr(), bytes.len()))
     }
 
     pub fn reader_copy(&self) -> Result<Table, Refused> {

@@ -1,7 +1,7 @@
 //! The card calls one by one: what they accept, each refusal that they can give, and that a refused call changes no byte.
 use card::{
-    check, crc32_next, free_runs, get, list, uefi_header, uefi_list, BlockSize, Card, Entry, Flags, Guid, GuidError, Name, NameError, Place, Record, Refusal,
-    Refused, Table, FRESH, SLOTS,
+    check, crc32_next, free_runs, get, judge, list, read_label, uefi_header, uefi_list, BlockSize, Card, Dated, Entry, Flags, Guid, GuidError, Label, Name,
+    NameError, Place, Record, Refusal, Refused, SetRefused, Table, FRESH, SLOTS,
 };
 use BlockSize::{B4096, B512};
 
@@ -47,6 +47,9 @@ fn no_card(image: &mut [u8], size: BlockSize, refusal: impl Into<Refused>) {
     assert_eq!(get(image, size, 1), Err(refusal));
     assert_eq!(list(image, size).unwrap_err(), refusal);
     assert_eq!(free_runs(image, size), Err(refusal));
+    assert_eq!(read_label(image, size, 1), Err(refusal));
+    assert_eq!(judge(image, size, &[1]), Err(SetRefused { refused: refusal, slot: None }));
+    assert_eq!(judge(image, size, &[]), Err(SetRefused { refused: Refusal::EmptyList.into(), slot: None }));
     assert_eq!(Card::open(image, size).unwrap_err(), refusal);
     assert!(image == before);
 }
@@ -364,6 +367,64 @@ fn payload_stays_in_its_partition() {
         assert_eq!(card.write_payload(1, 0, &vec![7; block]), Ok(block));
         assert_eq!(card.write_payload(1, block - 1, b"x"), Ok(1));
         assert_eq!(card.check(), Ok(()));
+    }
+}
+
+/// A label goes to the first 13 bytes of its partition, reads back, and changes no other byte.
+#[test]
+fn a_label_is_written_and_read() {
+    let label = Label { year: 0x07ea, month: 12, day: 31, style: 0x0102, sheet: 0x0304 };
+    for (size, blocks, usable) in SMALLEST {
+        let mut image = laid(size, blocks);
+        Card::open(&mut image, size).unwrap().put(9, &record(usable, usable, "map")).unwrap();
+        refused(&mut image, size, Refusal::BadSlot, |card| card.read_label(0));
+        refused(&mut image, size, Refusal::EmptySlot, |card| card.read_label(1));
+        refused(&mut image, size, Refusal::BadMark, |card| card.read_label(9));
+        refused(&mut image, size, Refusal::BadSlot, |card| card.write_label(129, label));
+        refused(&mut image, size, Refusal::EmptySlot, |card| card.write_label(1, Label { day: 0, ..label }));
+        for (month, day) in [(0, 1), (13, 1), (1, 0), (1, 32)] {
+            refused(&mut image, size, Refusal::BadDate, |card| card.write_label(9, Label { month, day, ..label }));
+        }
+        let mut want = image.clone();
+        let at = usable as usize * bytes_of(size);
+        want[at..at + 13].copy_from_slice(b"FBM\x01\x00\xea\x07\x0c\x1f\x02\x01\x04\x03");
+        Card::open(&mut image, size).unwrap().write_label(9, label).unwrap();
+        assert!(image == want);
+        assert_eq!(read_label(&image, size, 9), Ok(label));
+        image[at + 3] = 2;
+        refused(&mut image, size, Refusal::UnknownVersion, |card| card.read_label(9));
+    }
+}
+
+/// A set has one date and one style revision, in any order and with any slot named again; a refused one names the first slot that fails or differs from the first.
+#[test]
+fn a_set_has_one_date() {
+    let label = Label { year: 2026, month: 7, day: 14, style: 3, sheet: 1 };
+    let dated = Dated { year: 2026, month: 7, day: 14, style: 3 };
+    for (size, blocks, usable) in SMALLEST {
+        let mut image = laid(size, blocks + 3);
+        let mut card = Card::open(&mut image, size).unwrap();
+        let labels = [label, Label { sheet: 2, ..label }, Label { style: 4, ..label }];
+        for ((slot, label), block) in (2..).zip(labels).zip(usable..) {
+            card.put(slot, &record(block, block, "map")).unwrap();
+            card.write_label(slot, label).unwrap();
+        }
+        card.put(5, &record(usable + 3, usable + 3, "no label")).unwrap();
+        for slots in [&[2, 3][..], &[3, 2], &[3, 3, 2, 3], &[2]] {
+            assert_eq!(card.judge(slots), Ok(dated));
+        }
+        let no = |slots: &[u32], refusal: Refusal, slot| {
+            assert_eq!(card.judge(slots), Err(SetRefused { refused: refusal.into(), slot }));
+        };
+        no(&[], Refusal::EmptyList, None);
+        no(&[2, 0, 1], Refusal::BadSlot, Some(0));
+        no(&[1, 129], Refusal::EmptySlot, Some(1));
+        no(&[3, 5, 0], Refusal::BadMark, Some(5));
+        no(&[2, 3, 4, 5], Refusal::TwoDates, Some(4));
+        no(&[4, 4, 2], Refusal::TwoDates, Some(2));
+        assert_eq!(card.judge(&[2, 4]).unwrap_err().to_string(), "refused 37, TwoDates: the maps have two dates or two style revisions (slot 4)");
+        card.write_label(4, Label { day: 15, ..label }).unwrap();
+        assert_eq!(card.judge(&[2, 4]).unwrap_err().number(), 37);
     }
 }
 

@@ -1,6 +1,6 @@
 //! Cards in files of any size: beside the same calls on an image, by what is read and written of the file, and where reading and writing fail.
 use card::{
-    check, reader_list, start_repair, Card, Device, Entry, FileCard, FileError, FileStaged, Guid, Place, Record, Refusal, Refused, Staged, SyncBy, Table,
+    check, reader_list, start_repair, Card, Device, Entry, FileCard, FileError, FileStaged, Guid, Label, Place, Record, Refusal, Refused, Staged, SyncBy, Table,
 };
 use card::{BlockSize, BlockSize::*};
 use std::io::{self, Cursor, ErrorKind, Read, Seek, SeekFrom, Write};
@@ -170,6 +170,43 @@ fn whole(size: BlockSize, more: u64) -> Vec<u8> {
     let mut image = vec![0xa5; ((blocks + more) * size.bytes()) as usize + 100];
     Card::lay(&mut image, size, DISK).unwrap().put(33, &record(usable, usable, "map")).unwrap();
     image
+}
+
+/// Labels and sets in a file are what they are on an image, and a refused write leaves the file as it was.
+#[test]
+fn labels_of_a_file_are_those_of_the_image() {
+    for (size, blocks, usable) in SMALLEST {
+        let mut image = vec![0xa5; ((blocks + 9) * size.bytes()) as usize];
+        let mut file = FileCard::lay(Cursor::new(image.clone()), size, DISK).unwrap();
+        let mut card = Card::lay(&mut image, size, DISK).unwrap();
+        for (slot, block) in [(1, usable + 1), (2, usable + 2), (3, usable + 3), (128, usable)] {
+            let map = Record { guid: Guid::from_fields(slot, 0, 0, [1; 8]), ..record(block, block, "map") };
+            file.put(slot, &map).unwrap();
+            card.put(slot, &map).unwrap();
+        }
+        let label = Label { year: 0xe7e6, month: 12, day: 31, style: 0xd7d6, sheet: 9 };
+        for (slot, label) in [
+            (1, label),
+            (2, Label { sheet: 8, ..label }),
+            (3, Label { style: 1, ..label }),
+            (4, label),
+            (0, label),
+            (1, Label { month: 13, ..label }),
+            (129, Label { day: 0, ..label }),
+        ] {
+            assert_eq!(verdict(file.write_label(slot, label)), card.write_label(slot, label), "{slot} {label:?}");
+        }
+        for slot in [0, 1, 2, 3, 4, 128, 129, u32::MAX] {
+            assert_eq!(verdict(file.read_label(slot)), card.read_label(slot), "{slot}");
+        }
+        for slots in [&[][..], &[1], &[1, 2, 1], &[2, 1, 2], &[1, 2, 3], &[3, 1], &[1, 4], &[1, 0, 3], &[128], &[1, 128], &[1, 1, 3, 3]] {
+            match (file.judge(slots), card.judge(slots)) {
+                (Err(FileError::SetRefused(told)), Err(due)) => assert_eq!(told, due, "{slots:?}"),
+                (told, due) => assert_eq!(told.unwrap(), due.unwrap(), "{slots:?}"),
+            }
+        }
+        assert!(file.into_inner().into_inner() == image, "the file is not as the image");
+    }
 }
 
 /// A generator of random numbers: SplitMix64.

@@ -1,0 +1,2 @@
+-- The laws of labels that are handed in.
+pub mod Ways

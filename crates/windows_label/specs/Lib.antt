@@ -1,0 +1,2 @@
+-- Labels of a card by two windows, handed in.
+pub mod Handed
