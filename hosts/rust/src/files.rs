@@ -465,6 +465,25 @@ impl<F> FileCard<F> {
         self.windows.block_size
     }
 
+    /// The usable blocks: those that a partition may have.
+    ///
+    /// # Errors
+    ///
+    /// Refused as [`check`](FileCard::check) is; [`FileError::Io`].
+    pub fn usable(&self) -> Result<RangeInclusive<u64>, FileError> {
+        Ok(self.tables()?.usable()?)
+    }
+
+    /// The head's bytes as they were read or written last: block 0, the front header and the front array.
+    pub fn head(&self) -> &[u8] {
+        &self.windows.head
+    }
+
+    /// The tail's bytes: the back array and the back header.
+    pub fn tail(&self) -> &[u8] {
+        &self.windows.tail
+    }
+
     /// The file.
     pub fn get_ref(&self) -> &F {
         &self.file

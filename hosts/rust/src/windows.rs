@@ -122,13 +122,22 @@ impl Windows {
         Ok(SlotMap(made.map))
     }
 
-    /// The disk GUID of a card that passes the check. The head is an image to the ported call, which reads the header in its block 1.
-    pub fn disk_guid(&self) -> Result<Guid, Refused> {
+    /// The front header of a card that passes the check. The head is an image to the ported call, which reads the header in its block 1.
+    fn header(&self) -> Result<ffi::gpt_header, Refused> {
         self.check()?;
         // SAFETY: the pointer and the length are those of one slice, which is only read; a slice's pointer is not null, also where it is empty.
         let read = unsafe { ffi::gpt_read_primary_header(self.head.as_ptr(), self.head.len(), self.block_size.bytes()) };
         accepted(read.number, 0, 0, 0)?;
-        Ok(Guid::from_c(read.header.disk_guid))
+        Ok(read.header)
+    }
+
+    pub fn disk_guid(&self) -> Result<Guid, Refused> {
+        Ok(Guid::from_c(self.header()?.disk_guid))
+    }
+
+    pub fn usable(&self) -> Result<RangeInclusive<u64>, Refused> {
+        let header = self.header()?;
+        Ok(header.first_usable..=header.last_usable)
     }
 
     pub fn payload_place(&self, slot: u32, place: usize, count: usize) -> Result<u64, Refused> {

@@ -1,0 +1,476 @@
+//! The commands that change a card's tables: lay, put, clear, repair and grow. Every update is made in stages, each stored before the next.
+use crate::args::{self, number, Args, Size};
+use crate::dry;
+use crate::failure::{io_failure, system_words, Failure, Outcome};
+use crate::look::name_of;
+use crate::medium::{drawn_guid, Access, Medium};
+use crate::opened::{block_size, io_words, too_small, Opened};
+use crate::output::Out;
+use crate::payload;
+use crate::words::{self, count, quoted};
+use card::{BlockSize, Device, FileCard, FileError, FileStaged, Flags, Guid, Name, Record, Refusal, Table};
+use std::fs::{self, OpenOptions};
+use std::io::{self, Seek, SeekFrom, Write};
+use std::ops::RangeInclusive;
+use std::path::{Path, PathBuf};
+
+/// How a command that writes opens its file.
+pub fn access(args: &Args) -> Access {
+    Access::Write { dry: args.has("dry-run"), mounted: args.has("mounted") }
+}
+
+/// `lay FILE [--size S] [--guid G] [--force]`
+pub fn lay(mut args: Args, out: &mut Out) -> Outcome {
+    let path = PathBuf::from(args.word("FILE")?);
+    args.end()?;
+    let size = args.value("size", args::bytes)?;
+    let guid = args.value("guid", args::guid)?;
+    let (medium, made) = medium_to_lay(&args, &path, size)?;
+    let laid = laid(&args, medium, &path, size, guid, out);
+    if laid.is_err() && made {
+        // The file has nothing in it yet, and the failure that counts is the first one.
+        let _ = fs::remove_file(&path);
+    }
+    laid
+}
+
+/// The file to lay a card on, and whether it was made here.
+pub fn medium_to_lay(args: &Args, path: &Path, size: Option<u64>) -> Outcome<(Medium, bool)> {
+    let shown = path.display().to_string();
+    let size = match (fs::metadata(path), size) {
+        (Err(failure), Some(size)) if failure.kind() == io::ErrorKind::NotFound => size,
+        (Err(failure), None) if failure.kind() == io::ErrorKind::NotFound => {
+            return args.usage(format!("{shown} is not there: say how long it should be, as --size 8G"));
+        }
+        _ => return Ok((Medium::open(path, access(args))?, false)),
+    };
+    let failed = |failure: io::Error| io_failure(&shown, &failure);
+    if args.has("dry-run") {
+        return Err(Failure::Refused(format!("{shown} is not there: a dry run makes no file of {size} bytes. Nothing was changed.")));
+    }
+    let file = OpenOptions::new().read(true).write(true).create_new(true).open(path).map_err(failed)?;
+    match file.set_len(size).map_err(failed).and_then(|()| Medium::locked(file, &shown, access(args))) {
+        Ok(medium) => Ok((medium, true)),
+        Err(failure) => {
+            let _ = fs::remove_file(path);
+            Err(failure)
+        }
+    }
+}
+
+/// Lays the card, if that drops no slot.
+fn laid(args: &Args, medium: Medium, path: &Path, size: Option<u64>, guid: Option<Guid>, out: &mut Out) -> Outcome {
+    let shown = path.display().to_string();
+    let failed = |failure: io::Error| io_failure(&shown, &failure);
+    let block_size = block_size(args, &medium, &shown)?;
+    let bytes = medium.length_now().map_err(failed)?;
+    if let Some(size) = size.filter(|size| *size != bytes) {
+        if bytes != 0 || medium.is_device() {
+            return Err(Failure::Refused(format!("{shown} has {bytes} bytes, not the {size} of --size. Nothing was changed.")));
+        }
+        if !medium.is_dry() {
+            medium.file().set_len(size).map_err(failed)?;
+        }
+    }
+    if !args.has("force") {
+        drops_no_slot(&medium, &shown, block_size)?;
+    }
+    let guid = match guid {
+        Some(guid) => guid,
+        None => drawn_guid()?,
+    };
+    let card = lay_on(medium, path, block_size, guid)?;
+    out.changed = true;
+    finish_lay(&card, &shown, out)
+}
+
+/// Lays a card on a medium, each block stored before the next.
+pub fn lay_on(medium: Medium, path: &Path, block_size: BlockSize, guid: Guid) -> Outcome<FileCard<Medium>> {
+    let bytes = medium.length_now().unwrap_or(0);
+    FileCard::lay(medium.in_order(), block_size, guid).map_err(|error| match error {
+        FileError::Refused(refused) => {
+            Failure::Refused(format!("{} not laid: {} Nothing was changed. [{}]", path.display(), too_small(bytes, block_size), refused.number()))
+        }
+        other => io_words(path, other),
+    })
+}
+
+fn finish_lay(card: &FileCard<Medium>, shown: &str, out: &mut Out) -> Outcome {
+    if card.get_ref().is_dry() {
+        return dry::report(card, shown, &[], out);
+    }
+    let read = |error: FileError| Failure::Io(format!("{shown}: {error}"));
+    let (guid, usable, b) = (card.disk_guid().map_err(read)?, card.usable().map_err(read)?, card.block_size().bytes());
+    let size = words::size(card.blocks() * b);
+    out.line(format!("card laid: {shown}: {} blocks of {b} bytes ({size}), GUID {guid}, usable blocks {} to {}", card.blocks(), usable.start(), usable.end()));
+    tell_kernel(card.get_ref(), out);
+    Ok(())
+}
+
+/// Refuses to lay over slots that the reader shows.
+fn drops_no_slot(medium: &Medium, shown: &str, block_size: BlockSize) -> Outcome {
+    let again = medium.again(None).map_err(|failure| io_failure(shown, &failure))?;
+    let used = FileCard::open(again, block_size).ok().and_then(|card| card.reader_list().ok()).map_or(0, |list| list.len());
+    match used {
+        0 => Ok(()),
+        _ => Err(Failure::Refused(format!(
+            "{shown} is a card with {}, and laying drops them. Nothing was changed. To lay it anew: card lay --force {shown}",
+            count(used, "used slot")
+        ))),
+    }
+}
+
+/// A device's table has changed, so the kernel is asked to look again.
+pub fn tell_kernel(medium: &Medium, out: &mut Out) {
+    if !medium.is_device() || medium.is_dry() {
+        return;
+    }
+    if let Err(failure) = crate::system::read_table_again(medium.file()) {
+        out.line(format!("the kernel still has the old table: {}", system_words(&failure)));
+    }
+}
+
+/// Opens the card that the next word names, to be changed.
+pub fn opened(args: &mut Args) -> Outcome<Opened> {
+    let path = PathBuf::from(args.word("FILE")?);
+    Opened::open(args, &path, access(args))
+}
+
+/// The stage after which to stop, of so many.
+fn stop_after(args: &Args, stages: u32) -> Outcome<u32> {
+    match args.value("stop-after", number)? {
+        None => Ok(stages),
+        Some(stage) if (1..=stages).contains(&stage) => Ok(stage),
+        Some(stage) => args.usage(format!("--stop-after {stage}: there are stages 1 to {stages}")),
+    }
+}
+
+/// How far an update came.
+pub struct Carried {
+    pub stage: u32,
+    pub stages: u32,
+}
+
+/// Makes the stages that are left, through a given one. What fails is said with the stage.
+pub fn carry(staged: FileStaged<'_, Medium>, shown: &str, last: u32) -> Outcome<Carried> {
+    let stages = staged.stages();
+    let mut stage = staged.stage();
+    let mut step = Some(staged);
+    while stage < last.min(stages) {
+        let Some(staged) = step else { break };
+        step = staged.next().map_err(|error| cut(shown, stage + 1, stages, &error))?;
+        stage += 1;
+    }
+    Ok(Carried { stage, stages })
+}
+
+/// An update that could not go on.
+fn cut(shown: &str, stage: u32, stages: u32, error: &FileError) -> Failure {
+    let words = match error {
+        FileError::Io(failure) => system_words(failure),
+        other => other.to_string(),
+    };
+    Failure::Io(format!(
+        "{shown}: stage {stage} of {stages}: {words}. The card is one that was pulled: card show {shown} says what it shows, card repair {shown} mends it"
+    ))
+}
+
+/// What a call that begins an update comes to: refused in its own words, or failed at stage 1.
+pub fn begun<'a>(result: Result<FileStaged<'a, Medium>, FileError>, shown: &str, stages: u32) -> Result<Result<FileStaged<'a, Medium>, FileError>, Failure> {
+    match result {
+        Err(error @ FileError::Io(_)) => Err(cut(shown, 1, stages, &error)),
+        other => Ok(other),
+    }
+}
+
+/// The slot that a word names; `None` for `next`.
+fn slot_or_next(args: &Args, word: &std::ffi::OsString) -> Outcome<Option<u32>> {
+    match word.to_str() {
+        Some("next") => Ok(None),
+        _ => args.read(word, |text| number(text).map_err(|_| format!("{text:?} is no slot: a number from 1 to 128, or next"))).map(Some),
+    }
+}
+
+/// Where a partition is to be: at blocks that were given, or wherever there is room.
+#[derive(Clone, Copy)]
+pub enum Ground {
+    Blocks(u64, u64),
+    Room(Size),
+}
+
+fn ground(args: &Args) -> Outcome<Ground> {
+    let (first, last) = (args.value("first", number)?, args.value("last", number)?);
+    let size = args.value("size", |text| args::size(text, Size::Bytes))?;
+    match (first, last, size) {
+        (Some(first), Some(last), None) => Ok(Ground::Blocks(first, last)),
+        (None, None, Some(Size::Bytes(0) | Size::Blocks(0))) => args.usage("--size 0: a partition has at least one block"),
+        (None, None, Some(size)) => Ok(Ground::Room(size)),
+        _ => args.usage("say --first and --last, or --size"),
+    }
+}
+
+/// `put FILE SLOT|next (--first N --last N | --size S) [--type T] [--name NAME] [--guid G] [--attrs A]`
+pub fn put(mut args: Args, out: &mut Out) -> Outcome {
+    let (path, slot) = (PathBuf::from(args.word("FILE")?), args.word("SLOT")?);
+    args.end()?;
+    let slot = slot_or_next(&args, &slot)?;
+    let ground = ground(&args)?;
+    let last = stop_after(&args, 4)?;
+    let type_guid = args.value("type", args::type_guid)?.unwrap_or(Guid::BASIC_DATA);
+    let flags = args.value("attrs", args::flags)?.unwrap_or(Flags::NONE);
+    let name = match Name::new(args.text("name").unwrap_or("")) {
+        Ok(name) => name,
+        Err(error) => return args.usage(error.to_string()),
+    };
+    let given = args.value("guid", args::guid)?;
+    let mut opened = Opened::open(&args, &path, access(&args))?;
+    opened.checked(opened.card.check())?;
+    let slot = match slot {
+        Some(slot) => slot,
+        None => opened.card.lowest_free().map_err(|error| opened.failure(error, |_| "no slot put: all 128 slots are used. Nothing was changed.".into()))?,
+    };
+    let guid = match given {
+        Some(guid) => guid,
+        None => drawn_guid()?,
+    };
+    let (first, last_block) = blocks_for(&opened, slot, ground)?;
+    let record = Record { type_guid, guid, first, last: last_block, flags, name };
+    let carried = put_record(&mut opened, slot, &record, last)?;
+    finish(&opened, carried, || put_words(slot, &record, opened.b()), out)
+}
+
+/// What was put, in words.
+fn put_words(slot: u32, record: &Record, b: u64) -> String {
+    let size = words::size(words::bytes_of(record.first, record.last, b));
+    let (kind, name) = (words::type_of(record.type_guid), quoted(&record.name));
+    format!("slot {slot} put: blocks {} to {} ({size}), type {kind}, GUID {}, {name}", record.first, record.last, record.guid)
+}
+
+/// Puts a record in stages, through one of them.
+pub fn put_record(opened: &mut Opened, slot: u32, record: &Record, last: u32) -> Outcome<Carried> {
+    let shown = opened.shown();
+    let result = begun(opened.card.start_put(slot, record), &shown, 4)?;
+    match result {
+        Ok(staged) => carry(staged, &shown, last),
+        Err(error) => {
+            Err(opened.failure(error, |refusal| format!("slot {slot} not put: {}. Nothing was changed.", put_refusal(opened, slot, record, refusal))))
+        }
+    }
+}
+
+/// Why the library does not put a record.
+fn put_refusal(opened: &Opened, slot: u32, record: &Record, refusal: Refusal) -> String {
+    let Record { first, last, .. } = record;
+    let other = |slot: u32| opened.card.get(slot).ok().flatten();
+    match refusal {
+        Refusal::Overlap { slot } => match other(slot) {
+            Some(there) => format!("blocks {first} to {last} overlap slot {slot} {} ({} to {})", quoted(&there.name), there.first, there.last),
+            None => format!("blocks {first} to {last} overlap slot {slot}"),
+        },
+        Refusal::TwinGuid { slot } => format!("slot {slot} {} has the same partition GUID", other(slot).map_or(String::new(), |there| quoted(&there.name))),
+        Refusal::NilType => "its type is nil".into(),
+        Refusal::BadRange => format!("the last block, {last}, comes before the first, {first}"),
+        Refusal::OutsideUsable => match opened.card.usable() {
+            Ok(usable) => format!("blocks {first} to {last} are not all usable: those are {} to {}", usable.start(), usable.end()),
+            Err(_) => format!("blocks {first} to {last} are not all usable"),
+        },
+        other => slot_refusal(slot, other),
+    }
+}
+
+/// The refusals that every call on a slot has.
+pub fn slot_refusal(slot: u32, refusal: Refusal) -> String {
+    match refusal {
+        Refusal::BadSlot => format!("there is no slot {slot}: a card has slots 1 to 128"),
+        Refusal::EmptySlot => format!("slot {slot} is not used"),
+        other => other.to_string(),
+    }
+}
+
+/// The blocks for a partition.
+fn blocks_for(opened: &Opened, slot: u32, ground: Ground) -> Outcome<(u64, u64)> {
+    let size = match ground {
+        Ground::Blocks(first, last) => return Ok((first, last)),
+        Ground::Room(size) => size,
+    };
+    let (b, blocks) = (opened.b(), size.blocks(opened.b()));
+    let runs = opened.checked(opened.card.free_runs())?;
+    match room_in(&runs, blocks, b) {
+        Some(first) => Ok((first, first + (blocks - 1))),
+        None => {
+            let largest = runs.iter().map(|run| run.end() - run.start() + 1).max().unwrap_or(0);
+            let (asked, had) = (words::size(blocks.saturating_mul(b)), words::size(largest * b));
+            Err(Failure::Refused(format!(
+                "slot {slot} not put: no free run has {blocks} blocks ({asked}); the largest has {largest} ({had}). Nothing was changed."
+            )))
+        }
+    }
+}
+
+/// The first block of the lowest ground for so many blocks: from a multiple of 1 MiB on, or else wherever there is room.
+pub fn room_in(runs: &[RangeInclusive<u64>], blocks: u64, b: u64) -> Option<u64> {
+    let fits = |run: &RangeInclusive<u64>, first: u64| first <= *run.end() && run.end() - first >= blocks - 1;
+    let grain = (1 << 20) / b;
+    let aligned = |run: &RangeInclusive<u64>| run.start().div_ceil(grain) * grain;
+    let at_grain = runs.iter().find(|run| fits(run, aligned(run))).map(aligned);
+    at_grain.or_else(|| runs.iter().find(|run| fits(run, *run.start())).map(|run| *run.start()))
+}
+
+/// Says what an update came to.
+fn finish(opened: &Opened, carried: Carried, done: impl FnOnce() -> String, out: &mut Out) -> Outcome {
+    let medium = opened.card.get_ref();
+    if medium.is_dry() {
+        return dry::report(&opened.card, &opened.shown(), &[], out);
+    }
+    out.changed = true;
+    let Carried { stage, stages } = carried;
+    if stage < stages {
+        let shows = if stage < 3 { "old" } else { "new" };
+        out.line(format!("stopped after stage {stage} of {stages}, as asked: the reader shows the {shows} table"));
+        return Ok(());
+    }
+    out.line(done());
+    tell_kernel(medium, out);
+    Ok(())
+}
+
+/// `clear FILE SLOT [--wipe]`
+pub fn clear(mut args: Args, out: &mut Out) -> Outcome {
+    let (path, slot) = (PathBuf::from(args.word("FILE")?), args.word("SLOT")?);
+    args.end()?;
+    let slot: u32 = args.read(&slot, number)?;
+    let last = stop_after(&args, 4)?;
+    let mut opened = Opened::open(&args, &path, access(&args))?;
+    opened.checked(opened.card.check())?;
+    let said = |refusal| format!("slot {slot} not cleared: {}. Nothing was changed.", slot_refusal(slot, refusal));
+    let Some(record) = opened.card.get(slot).map_err(|error| opened.failure(error, said))? else {
+        out.line(format!("slot {slot} was not used"));
+        return Ok(());
+    };
+    let mut notes = Vec::new();
+    if args.has("wipe") {
+        payload::wipe(&mut opened, slot, &record, &args, &mut notes)?;
+        out.changed = true;
+    }
+    let shown = opened.shown();
+    let result = begun(opened.card.start_clear(slot), &shown, 4)?;
+    let carried = match result {
+        Ok(staged) => carry(staged, &shown, last)?,
+        Err(error) => return Err(opened.failure(error, said)),
+    };
+    if opened.card.get_ref().is_dry() {
+        return dry::report(&opened.card, &shown, &notes, out);
+    }
+    let Record { first, last, .. } = record;
+    let words = match args.has("wipe") {
+        true => format!("slot {slot} wiped and cleared: zeros in blocks {first} to {last}"),
+        false => format!("slot {slot} cleared: its entry is gone from both tables, its bytes (blocks {first} to {last}) are still on the card"),
+    };
+    finish(&opened, carried, || words, out)
+}
+
+/// `repair FILE`
+pub fn repair(mut args: Args, out: &mut Out) -> Outcome {
+    let mut opened = opened(&mut args)?;
+    args.end()?;
+    let stages = (16384 / opened.b()) as u32 + 2;
+    let last = stop_after(&args, stages)?;
+    if opened.card.check().is_ok() {
+        out.line("nothing to repair: the check accepts the card".to_string());
+        return Ok(());
+    }
+    let shown = opened.shown();
+    let Ok(from) = opened.card.reader_copy() else {
+        let words = opened.card.check().err().and_then(|error| error.refused()).map_or(String::new(), |refused| opened.check_words(refused));
+        return Err(Failure::Refused(format!("{shown} not repaired: {words}. Nothing was changed. [27]")));
+    };
+    let other = if from == Table::Front { Table::Back } else { Table::Front };
+    let (from, other) = (name_of(from), name_of(other));
+    let staged = match begun(opened.card.start_repair(), &shown, stages)? {
+        Ok(staged) => staged,
+        Err(error) => return Err(io_words(&opened.path, error)),
+    };
+    let Carried { stage, .. } = carry(staged, &shown, last)?;
+    if opened.card.get_ref().is_dry() {
+        return dry::report(&opened.card, &shown, &[], out);
+    }
+    out.changed = true;
+    if stage < stages {
+        out.line(format!("stopped after stage {stage} of {stages}, as asked: the reader still takes the {from} table"));
+        return Ok(());
+    }
+    out.line(format!("{other} table repaired from the {from}: {stages} blocks stored"));
+    tell_kernel(opened.card.get_ref(), out);
+    Ok(())
+}
+
+/// `grow FILE`: the same slots on all blocks of a file that has become longer.
+///
+/// The new tables are made in memory by the library: a card of the new length is laid there with the same GUID, and each slot is put again. The back table is stored first, behind the old
+/// card's end, where it changes nothing that the old front table describes. Then the front header, one block, turns the card over to the new length; the front array stays as it is. So wherever
+/// it is cut, the card is the shorter one or the longer one, with the same slots.
+pub fn grow(mut args: Args, out: &mut Out) -> Outcome {
+    let opened = opened(&mut args)?;
+    args.end()?;
+    let shown = opened.shown();
+    if opened.card.check().is_ok() {
+        out.line(format!("nothing to grow: the card has all {} blocks of the file", opened.card.blocks()));
+        return Ok(());
+    }
+    let Some(before) = opened.shorter() else {
+        return Err(Failure::Refused(format!("{shown} not grown: it has no front table that is good for a shorter file. Nothing was changed.")));
+    };
+    if let Err(error) = before.check() {
+        let words = error.refused().map_or_else(|| error.to_string(), |refused| refused.to_string());
+        return Err(Failure::Refused(format!("{shown} not grown: at its {} blocks the card is not whole: {words}. Nothing was changed.", before.blocks())));
+    }
+    let (old, slots) = (before.blocks(), before.count().map_err(|error| io_words(&opened.path, error))?);
+    let grown = grown(&opened, &before)?;
+    let mut medium = opened.card.get_ref().again(None).map_err(|failure| io_failure(&shown, &failure))?;
+    store_grown(&mut medium, &grown)
+        .map_err(|failure| Failure::Io(format!("{shown}: {}. card show {shown} says what it shows; card grow {shown} goes on", system_words(&failure))))?;
+    if medium.is_dry() {
+        let card = FileCard::open(medium, opened.card.block_size()).map_err(|error| io_words(&opened.path, error))?;
+        return dry::report(&card, &shown, &[], out);
+    }
+    out.changed = true;
+    let (blocks, b) = (grown.blocks(), opened.b());
+    let stay = if slots == 1 { "1 slot stays as it was".to_string() } else { format!("{slots} slots stay as they were") };
+    out.line(format!("card grown from {old} to {blocks} blocks of {b} bytes ({}): {stay}", words::size(blocks * b)));
+    tell_kernel(&medium, out);
+    Ok(())
+}
+
+/// The card at the new length, in memory, with the slots of the shorter one.
+fn grown(opened: &Opened, before: &FileCard<Medium>) -> Outcome<FileCard<Medium>> {
+    let failed = |error: FileError| match error {
+        FileError::Refused(refused) => Failure::Refused(format!("{} not grown: {refused}. Nothing was changed. [{}]", opened.shown(), refused.number())),
+        other => io_words(&opened.path, other),
+    };
+    let memory = opened.card.get_ref().again_in_memory().map_err(|failure| io_failure(&opened.shown(), &failure))?;
+    let mut card = FileCard::lay(memory, opened.card.block_size(), before.disk_guid().map_err(failed)?).map_err(failed)?;
+    for entry in before.list().map_err(failed)? {
+        card.put(entry.slot, &entry.record).map_err(failed)?;
+    }
+    Ok(card)
+}
+
+/// Stores the tables of a card that was made in memory: the back table, then the front one from its end to its beginning. A block that is there already is not written.
+fn store_grown(medium: &mut Medium, grown: &FileCard<Medium>) -> io::Result<()> {
+    let b = grown.block_size().bytes();
+    let tail = grown.blocks() * b - grown.tail().len() as u64;
+    let blocks =
+        |window: &[u8], from: u64| -> Vec<(u64, Vec<u8>)> { window.chunks(b as usize).zip(0..).map(|(block, i)| (from + i * b, block.to_vec())).collect() };
+    let (back, front) = (blocks(grown.tail(), tail), blocks(grown.head(), 0));
+    for (place, block) in back.into_iter().chain(front.into_iter().rev()) {
+        let mut there = vec![0; b as usize];
+        medium.seek(SeekFrom::Start(place))?;
+        io::Read::read_exact(medium, &mut there)?;
+        if there != block {
+            medium.seek(SeekFrom::Start(place))?;
+            medium.write_all(&block)?;
+            medium.sync()?;
+        }
+    }
+    Ok(())
+}
