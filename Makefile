@@ -9,7 +9,7 @@ LOG ?= target/gate.log
 # The scripts take these from the environment.
 export CC CFLAGS LDFLAGS PREFIX DESTDIR
 
-.PHONY: help demo sums test gate-times deps outside programs bench lib install uninstall install-test boundary example lister-test python rust documents interop differential differential-slips scripts-test boundary-valgrind rust-outside race model writers cuts cuts-quick firmware firmware-quick edits clean
+.PHONY: help demo sums test gate-times deps outside programs bench bench-list lib card card-test install uninstall install-test boundary example lister-test python rust documents interop differential differential-slips scripts-test boundary-valgrind rust-outside race model writers cuts cuts-quick firmware firmware-quick edits clean
 
 # Two runs of rt in one repository write the same files, so with -j, too, one target is made after the other.
 .NOTPARALLEL:
@@ -73,9 +73,23 @@ target/lib/libcard.so: target/lib/libcard.a
 target/lib/libcard.so.0: target/lib/libcard.so
 	ln -sf libcard.so target/lib/libcard.so.0
 
-# Installs header, libraries, lister, a pkg-config file and the licences, below DESTDIR and PREFIX.
+# Builds the card command, target/card/card (hosts/card). Cargo asks no registry.
+card: lib
+	@mkdir -p target/card
+	@cd hosts/card && CARD_LIB_DIR=../../target/lib CARGO_TARGET_DIR=../../target/rust-card cargo build --release --offline --locked >../../target/card.log 2>&1 || { cat ../../target/card.log; exit 1; }
+	@cp "$$(find target/rust-card -path '*/release/card' -type f | head -n 1)" target/card/new
+	@if cmp -s target/card/new target/card/card; then rm target/card/new; else mv target/card/new target/card/card; fi
+	@echo "target/card/card"
+
+# Tries every command of card, every refusal's words and every exit status, on files of any size, on failing input and output, and beside other tools (tests/card). Variables: SEED.
+card-test: card
+	@cd hosts/card && CARD_LIB_DIR=../../target/lib CARGO_TARGET_DIR=../../target/rust-card cargo test --offline --locked >../../target/card-unit.log 2>&1 || { cat ../../target/card-unit.log; exit 1; }
+	python3 tests/card/run.py $(if $(SEED),--seed $(SEED))
+
+# Installs the card command (where there is cargo), header, libraries, lister, a pkg-config file and the licences, below DESTDIR and PREFIX.
 install: lib
 	@scripts/prove lister
+	@if command -v cargo >/dev/null 2>&1; then $(MAKE) -s card >/dev/null; else echo "install: there is no cargo, so the card command is left out"; rm -f target/card/card; fi
 	@VERSION=$(VERSION) scripts/install put
 
 # Removes what install has put below DESTDIR and PREFIX. Folders that other software shares, such as lib, stay.
@@ -95,6 +109,10 @@ bench: lib
 	target/bench-crc
 	target/bench-card
 	bench/beside/run.sh
+
+# Measures the whole process of card list beside sgdisk, sfdisk, parted and the Rust original, on files of 1 MiB and 64 GiB, in one run (bench/list).
+bench-list: card
+	bench/list/run.sh
 
 # Calls every function of include/card.h from C, and measures the stack that calls need (tests/c).
 boundary: lib

@@ -12,7 +12,7 @@ logs=target/outside
 # Which line a step stands in.
 line_of() {
     case $1 in
-        programs | lib) echo first ;;
+        programs | lib | card) echo first ;;
         lister-test | demo | sums | install-test | documents) echo rt ;;
         *) echo other ;;
     esac
@@ -93,6 +93,7 @@ run lister-test "the lister and free_ground" x86-64 python3
 run demo "the sample card, laid and listed" x86-64
 run sums "the check sums of published vectors" x86-64
 run lib "the library for C" x86-64 cc
+run card "the card command, built" x86-64 cargo cc
 run boundary "every call across the boundary to C" x86-64 cc
 run boundary-valgrind "every call across the boundary, under valgrind" x86-64 cc valgrind
 run python "the Python module's example" x86-64 python3 cc
@@ -101,6 +102,7 @@ run model "every call beside a model from the documents" x86-64 python3 cc
 run writers "two writers on one card" x86-64 python3 cc
 run cuts-quick "cards cut between stages" x86-64 python3 cc
 run rust "the Rust crate's tests" x86-64 cargo cc
+run card-test "the card command" x86-64 cargo cc python3
 run install-test "installed and used from there" x86-64 cc install
 run documents "the documents' commands" x86-64 python3 cc
 run interop "cards beside sgdisk, sfdisk, fdisk and parted" x86-64 python3 cc sgdisk sfdisk fdisk parted

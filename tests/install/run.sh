@@ -11,6 +11,12 @@ prefix="/the card"
 there=$stage$prefix
 want='used 1, then refused 22 by slot 1'
 files="include/card.h lib/libcard.a lib/libcard.so lib/libcard.so.0 lib/pkgconfig/card.pc bin/card-lister share/doc/card/LICENSE share/doc/card/NOTICE"
+command="the card command, "
+if command -v cargo >/dev/null 2>&1; then
+    files="$files bin/card share/man/man1/card.1 share/bash-completion/completions/card"
+else
+    command="no card command, for want of cargo, "
+fi
 
 fail() {
     echo "install: $*"
@@ -63,6 +69,11 @@ fi
 [ "$(readlink target/lib/libcard.so.0)" = libcard.so ] || fail "target/lib/libcard.so.0 does not stand beside libcard.so"
 
 "$there/bin/card-lister" <crates/lister/stdin | cmp - crates/lister/stdout || fail "the installed lister prints another text"
+if [ -e "$there/bin/card" ]; then
+    "$there/bin/card" lay "$root/a card" --size 1M >/dev/null && "$there/bin/card" check "$root/a card" >/dev/null || fail "the installed card command does not lay a card"
+    ldd "$there/bin/card" 2>/dev/null | grep -q libcard && fail "the card command asks for the shared library"
+    [ "$("$there/bin/card" --version)" = "card $(sed -n 's/^VERSION = //p' Makefile)" ] || fail "the card command has another version"
+fi
 
 # The compiler, its flags and the linker's are those that make was given, in the rule for the shared library as in the others.
 said=$(make -n -W target/lib/libcard.a target/lib/libcard.so boundary CC='some cc' CFLAGS=-some-c LDFLAGS=-some-ld | grep -c '^some cc .*-some-c .*-some-ld')
@@ -81,4 +92,4 @@ make -s uninstall PREFIX="$prefix" DESTDIR="$stage" >"$root/said" || fail "make 
 
 # Without DESTDIR a word about ldconfig is the last line.
 make -s install DESTDIR= PREFIX="$root/own place" 2>&1 | tail -n 1 | grep -q ldconfig || fail "make install says nothing of ldconfig"
-echo "install: header, both libraries, lister and licences work from an empty folder, and are removed again ($how)"
+echo "install: ${command}header, both libraries, lister and licences work from an empty folder, and are removed again ($how)"
