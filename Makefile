@@ -163,7 +163,7 @@ differential-slips:
 	@tests/differential/run.sh slips
 
 # Runs every command that the documents give and compares what it prints, or has it accounted for (tests/documents.py).
-documents: lib
+documents: lib card
 	python3 tests/documents.py
 
 # Tries the scripts of the gate and of this file, with a stand-in for rt (tests/scripts).

@@ -28,6 +28,7 @@ NOT_RUN = {
     "make gate-times": "make scripts-test runs it",
     "make deps": "it would install packages; make scripts-test runs it, with a stand-in for apt-get",
     "make bench": "it takes minutes and a quiet machine, and needs zlib's header",
+    "make bench-list": "it takes minutes and a quiet machine",
     "make clean": "it would delete what was built",
     "make differential-slips": "it takes minutes",
     "make firmware": "it takes minutes, QEMU and a download; make firmware-quick runs a part of it",
@@ -147,6 +148,8 @@ def marked(path):
 
 def run(where, commands, prints):
     environment = {name: value for name, value in os.environ.items() if name not in ("MAKEFLAGS", "MFLAGS", "MAKELEVEL")}
+    # The documents say where the command card is, and how a shell finds it.
+    environment["PATH"] = f"{os.getcwd()}/target/card:{environment['PATH']}"
     done = subprocess.run(["sh", "-ec", "\n".join(commands)], stdin=subprocess.DEVNULL, capture_output=True, text=True, env=environment)
     said = done.stdout.splitlines()
     if done.returncode:
