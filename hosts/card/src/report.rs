@@ -70,7 +70,8 @@ fn verdict(opened: &Opened, refused: Option<Refused>, out: &mut Out) -> Outcome 
 /// The card to scale, as the check or else the reader shows it.
 fn picture(opened: &Opened, out: &mut Out) -> Outcome {
     let Ok(list) = opened.card.reader_list() else { return Ok(()) };
-    let entries: Vec<Entry> = list.collect();
+    let mut entries: Vec<Entry> = list.collect();
+    entries.sort_by_key(|entry| entry.record.first);
     let blocks = opened.card.blocks() as f64;
     out.line(
         "<h2>The card to scale</h2>\n<svg viewBox=\"0 0 1000 70\" preserveAspectRatio=\"none\" role=\"img\" aria-label=\"the card to scale\">".to_string(),
@@ -84,16 +85,16 @@ fn picture(opened: &Opened, out: &mut Out) -> Outcome {
     };
     match parts(opened, &entries) {
         Ok(parts) => {
-            for (first, last, part) in &parts {
+            for ((first, last, part), order) in parts.iter().zip(0..) {
                 out.line(match part {
                     Part::Free => draw(*first, *last, "#eeeeee", &format!("free: {first} to {last}")),
                     Part::Tables(what) => draw(*first, *last, "#555555", what),
-                    Part::Slot(entry) => draw(*first, *last, colour(entry.slot), &slot_title(entry)),
+                    Part::Slot(entry) => draw(*first, *last, colour(order), &slot_title(entry)),
                 });
             }
         }
         // A card that the check refuses has no free ground to show, but what the reader shows has a place.
-        Err(_) => entries.iter().for_each(|entry| out.line(draw(entry.record.first, entry.record.last, colour(entry.slot), &slot_title(entry)))),
+        Err(_) => entries.iter().zip(0..).for_each(|(entry, order)| out.line(draw(entry.record.first, entry.record.last, colour(order), &slot_title(entry)))),
     }
     out.line("</svg>".to_string());
     Ok(())
@@ -104,8 +105,8 @@ fn slot_title(entry: &Entry) -> String {
 }
 
 /// Colours that neighbours do not share.
-fn colour(slot: u32) -> &'static str {
-    ["#2f6db3", "#c8791a", "#3c8d4f", "#8d4f9c", "#b3452f"][slot as usize % 5]
+fn colour(order: usize) -> &'static str {
+    ["#2f6db3", "#c8791a", "#3c8d4f", "#8d4f9c", "#b3452f"][order % 5]
 }
 
 /// Both tables side by side. A slot whose bytes differ is marked.
@@ -171,7 +172,10 @@ fn cell(bytes: &[u8], b: u64) -> String {
 
 /// The labels by slot, and whether all have one date.
 fn labels(opened: &mut Opened, out: &mut Out) -> Outcome {
-    let Ok(list) = opened.card.list() else { return Ok(()) };
+    let Ok(list) = opened.card.list() else {
+        out.line("<p>Labels are read once the check accepts the card.</p>".to_string());
+        return Ok(());
+    };
     let slots: Vec<u32> = list.map(|entry| entry.slot).collect();
     out.line("<h2>Maps</h2>\n<table><tr><th>slot</th><th>date</th><th>style</th><th>sheet</th></tr>".to_string());
     let mut dated = Vec::new();
