@@ -12,7 +12,7 @@ use crate::table::{access, lay_on, medium_to_lay, put_record, room_in, tell_kern
 use crate::words::{self, count, quoted};
 use card::{crc32_next, Label, Record, FRESH};
 use std::io;
-use std::path::{Path, PathBuf};
+use std::path::Path;
 
 /// `apply PLAN FILE.. [--size S]`
 pub fn apply(mut args: Args, out: &mut Out) -> Outcome {
@@ -205,7 +205,7 @@ fn record_for(opened: &Opened, line: &Line, there: Option<Record>) -> Outcome<Re
 }
 
 /// Whether a slot has a file's bytes already. They are compared chunk by chunk up to the first that differs.
-fn same_bytes(opened: &mut Opened, line: &Line, file: &PathBuf) -> Outcome<bool> {
+fn same_bytes(opened: &mut Opened, line: &Line, file: &Path) -> Outcome<bool> {
     let mut source = Source::file(file)?;
     let (mut ours, mut theirs, mut done) = (vec![0; CHUNK], vec![0; CHUNK], 0);
     loop {

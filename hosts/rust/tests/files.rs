@@ -787,3 +787,22 @@ fn a_card_of_8_tib() {
     assert_eq!(holes.kept[&0][458..462], [0xff; 4]);
     assert_eq!((holes.kept.len(), holes.kept[&last][500..].to_vec()), (3 + 2 + 1, vec![7; 12]));
 }
+
+/// The usable blocks are those between the tables, and the windows' bytes are the file's.
+#[test]
+fn usable_blocks_and_windows() {
+    for (block_size, blocks, only) in SMALLEST {
+        for more in [0, 5] {
+            let (b, array) = (block_size.bytes() as usize, 16384);
+            let mut card = FileCard::lay(Cursor::new(vec![0; (blocks + more) as usize * b]), block_size, DISK).unwrap();
+            assert_eq!(card.usable().unwrap(), only..=only + more);
+            card.put(1, &record(only, only, "map")).unwrap();
+            let (head, tail) = (card.head().to_vec(), card.tail().to_vec());
+            let bytes = card.into_inner().into_inner();
+            assert_eq!((head.len(), tail.len()), (2 * b + array, b + array));
+            assert_eq!((&bytes[..head.len()], &bytes[bytes.len() - tail.len()..]), (&head[..], &tail[..]));
+        }
+    }
+    let blank = FileCard::open(Cursor::new(vec![0; 68 * 512]), B512).unwrap();
+    assert_eq!(blank.usable().unwrap_err().refused().unwrap().refusal, Refusal::InvalidGptSignature);
+}
