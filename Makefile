@@ -9,7 +9,7 @@ LOG ?= target/gate.log
 # The scripts take these from the environment.
 export CC CFLAGS LDFLAGS PREFIX DESTDIR
 
-.PHONY: help demo sums test gate-times deps outside programs bench bench-list lib card card-test install uninstall install-test boundary example lister-test python rust documents interop differential differential-slips scripts-test boundary-valgrind rust-outside race model writers cuts cuts-quick firmware firmware-quick edits clean
+.PHONY: help tour demo sums test gate-times deps outside programs bench bench-list lib card card-test install uninstall install-test boundary example lister-test python rust documents interop differential differential-slips scripts-test boundary-valgrind rust-outside race model writers cuts cuts-quick firmware firmware-quick edits clean
 
 # Two runs of rt in one repository write the same files, so with -j, too, one target is made after the other.
 .NOTPARALLEL:
@@ -161,6 +161,10 @@ differential:
 # Says how soon that run catches slips put into the port's answers.
 differential-slips:
 	@tests/differential/run.sh slips
+
+# Reads the files and lines that docs/TOUR.md names, and the picture of the crates. `python3 tests/tour.py --mend` puts both right.
+tour:
+	python3 tests/tour.py
 
 # Runs every command that the documents give and compares what it prints, or has it accounted for (tests/documents.py).
 documents: lib card
