@@ -50,6 +50,7 @@ NOT_RUN = {
     "rt dev NAME --allow-holes": "the same",
     "rt dev NAME --generated DIR": "the same",
     "rt doc": "it prints a place on the machine",
+    "rt selftest": "it proves crates of the kit, in a folder of its own",
     "rt version": "it prints the kit's name, and another kit is no error of a document",
 }
 MARKS = {"<!-- run -->": "run", "<!-- prints -->": "prints"}
