@@ -9,7 +9,7 @@ LOG ?= target/gate.log
 # The scripts take these from the environment.
 export CC CFLAGS LDFLAGS PREFIX DESTDIR
 
-.PHONY: help tour demo sums test gate-times deps outside programs bench bench-list lib card card-test install uninstall install-test boundary example lister-test python rust documents interop differential differential-slips scripts-test boundary-valgrind rust-outside race model writers cuts cuts-quick firmware firmware-quick edits clean
+.PHONY: help tour demo sums test gate-times deps outside programs bench bench-list lib card card-test install uninstall install-test deb dist package-test boundary example lister-test python rust documents interop differential differential-slips scripts-test boundary-valgrind rust-outside race model writers cuts cuts-quick firmware firmware-quick edits clean
 
 # Two runs of rt in one repository write the same files, so with -j, too, one target is made after the other.
 .NOTPARALLEL:
@@ -99,6 +99,20 @@ uninstall:
 # Installs into an empty folder, uses what is there, and removes it: a C program by either library, and the lister (tests/install).
 install-test:
 	tests/install/run.sh
+
+# Makes a package for Debian of what install puts in place, and the Python module (target/package). It needs cargo and dpkg-deb.
+deb: lib card
+	@scripts/prove lister
+	@VERSION=$(VERSION) scripts/package deb
+
+# Makes a tarball of the same, with sums, for a bench without a toolchain.
+dist: lib card
+	@scripts/prove lister
+	@VERSION=$(VERSION) scripts/package dist
+
+# Unpacks both into empty folders, and uses what is there (tests/install/package.sh).
+package-test: deb dist
+	tests/install/package.sh
 
 # Measures the check sum beside a plain byte table and zlib, the card calls, and both beside the Rust original (bench/beside), in one run each.
 bench: lib

@@ -36,6 +36,8 @@ NOT_RUN = {
     "tests/cuts/run.py --model": "make cuts-quick runs the program with the library",
     "make install": "make install-test runs it, into an empty folder",
     "make uninstall": "the same",
+    "make deb": "make package-test runs it",
+    "make dist": "the same",
     "sgdisk -u 2:R": "make interop runs it",
     "sgdisk -u SLOT:R": "the same, for slot 2",
     "sgdisk -A": "make interop runs it, with a slot and a bit",

@@ -13,7 +13,7 @@ logs=target/outside
 line_of() {
     case $1 in
         programs | lib | card) echo first ;;
-        lister-test | demo | sums | install-test | documents) echo rt ;;
+        lister-test | demo | sums | install-test | package-test | documents) echo rt ;;
         *) echo other ;;
     esac
 }
@@ -105,6 +105,7 @@ run cuts-quick "cards cut between stages" x86-64 python3 cc
 run rust "the Rust crate's tests" x86-64 cargo cc
 run card-test "the card command" x86-64 cargo cc python3
 run install-test "installed and used from there" x86-64 cc install
+run package-test "packages, unpacked and used" x86-64 cargo cc python3 dpkg-deb
 run documents "the documents' commands" x86-64 python3 cc cargo
 run interop "cards beside sgdisk, sfdisk, fdisk and parted" x86-64 python3 cc sgdisk sfdisk fdisk parted
 run firmware-quick "cut cards before the readers of other makers" x86-64 python3 cc sfdisk parted sgdisk
