@@ -19,6 +19,8 @@ pub struct Medium {
     length: Option<u64>,
     /// Whether each write is stored before the next one is taken.
     ordered: bool,
+    /// Whether this stands for a file that a dry run does not make.
+    blank: bool,
     /// What a dry run would have written, by its piece of the file.
     dry: Option<BTreeMap<u64, [u8; PIECE as usize]>>,
 }
@@ -63,12 +65,27 @@ impl Medium {
         Medium::locked(file, &shown, access)
     }
 
+    /// So many zero bytes, in place of a file that a dry run does not make: a file without a name, of which nothing is written.
+    pub fn blank(size: u64, access: Access) -> Outcome<Medium> {
+        let path = std::env::temp_dir().join(format!("card-dry-run-{}", std::process::id()));
+        let shown = path.display().to_string();
+        let file = OpenOptions::new().read(true).write(true).create_new(true).open(&path).map_err(|failure| io_failure(&shown, &failure))?;
+        let removed = fs::remove_file(&path).and_then(|()| file.set_len(size));
+        removed.map_err(|failure| io_failure(&shown, &failure))?;
+        Ok(Medium { blank: true, ..Medium::locked(file, &shown, access)? })
+    }
+
+    /// Whether this is such a stand-in.
+    pub fn is_blank(&self) -> bool {
+        self.blank
+    }
+
     /// Locks an open file. A device that is mounted is not written.
     pub fn locked(file: File, shown: &str, access: Access) -> Outcome<Medium> {
         let failed = |failure: io::Error| io_failure(shown, &failure);
         system::lock(&file, access.writes(), || eprintln!("card: waiting for {shown}, which another program has locked")).map_err(failed)?;
         let dry = matches!(access, Access::Write { dry: true, .. }).then(BTreeMap::new);
-        let medium = Medium { file, place: 0, length: None, ordered: false, dry };
+        let medium = Medium { file, place: 0, length: None, ordered: false, blank: false, dry };
         if let Access::Write { mounted: false, .. } = access {
             if let Some(folder) = medium.mounted_at().map_err(failed)? {
                 return Err(Failure::Refused(format!("{shown} is mounted at {folder}. Nothing was changed. Unmount it, or say --mounted")));
@@ -111,7 +128,7 @@ impl Medium {
 
     /// The same file once more, as it is now, to look at in another way. A dry run's writes are seen there too.
     pub fn again(&self, length: Option<u64>) -> io::Result<Medium> {
-        Ok(Medium { file: self.file.try_clone()?, place: 0, length, ordered: false, dry: self.dry.clone() })
+        Ok(Medium { file: self.file.try_clone()?, place: 0, length, ordered: false, blank: self.blank, dry: self.dry.clone() })
     }
 
     /// The same, with what is written kept in memory.

@@ -46,7 +46,7 @@ pub fn medium_to_lay(args: &Args, path: &Path, size: Option<u64>) -> Outcome<(Me
     };
     let failed = |failure: io::Error| io_failure(&shown, &failure);
     if args.has("dry-run") {
-        return Err(Failure::Refused(format!("{shown} is not there: a dry run makes no file of {size} bytes. Nothing was changed.")));
+        return Ok((Medium::blank(size, access(args))?, false));
     }
     let file = OpenOptions::new().read(true).write(true).create_new(true).open(path).map_err(failed)?;
     match file.set_len(size).map_err(failed).and_then(|()| Medium::locked(file, &shown, access(args))) {
@@ -59,7 +59,7 @@ pub fn medium_to_lay(args: &Args, path: &Path, size: Option<u64>) -> Outcome<(Me
 }
 
 /// Lays the card, if that drops no slot.
-fn laid(args: &Args, medium: Medium, path: &Path, size: Option<u64>, guid: Option<Guid>, out: &mut Out) -> Outcome {
+fn laid(args: &Args, mut medium: Medium, path: &Path, size: Option<u64>, guid: Option<Guid>, out: &mut Out) -> Outcome {
     let shown = path.display().to_string();
     let failed = |failure: io::Error| io_failure(&shown, &failure);
     let block_size = block_size(args, &medium, &shown)?;
@@ -68,8 +68,9 @@ fn laid(args: &Args, medium: Medium, path: &Path, size: Option<u64>, guid: Optio
         if bytes != 0 || medium.is_device() {
             return Err(Failure::Refused(format!("{shown} has {bytes} bytes, not the {size} of --size. Nothing was changed.")));
         }
-        if !medium.is_dry() {
-            medium.file().set_len(size).map_err(failed)?;
+        match medium.is_dry() {
+            true => medium = Medium::blank(size, access(args))?,
+            false => medium.file().set_len(size).map_err(failed)?,
         }
     }
     if !args.has("force") {
@@ -97,6 +98,9 @@ pub fn lay_on(medium: Medium, path: &Path, block_size: BlockSize, guid: Guid) ->
 
 fn finish_lay(card: &FileCard<Medium>, shown: &str, out: &mut Out) -> Outcome {
     if card.get_ref().is_dry() {
+        if card.get_ref().is_blank() {
+            out.line(format!("would make {shown} with {} bytes", card.get_ref().length_now().map_err(|failure| io_failure(shown, &failure))?));
+        }
         return dry::report(card, shown, &[], out);
     }
     let read = |error: FileError| Failure::Io(format!("{shown}: {error}"));
