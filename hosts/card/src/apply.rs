@@ -40,6 +40,9 @@ pub fn apply(mut args: Args, out: &mut Out) -> Outcome {
     if files.len() > 1 {
         out.line(format!("{} done, {failed} failed", count(files.len() - failed, "card")));
     }
+    if args.has("dry-run") {
+        dry::end(out);
+    }
     match worst {
         None => Ok(()),
         Some(Failure::Io(_)) => Err(Failure::Io(format!("{} not as planned", count(failed, "card")))),
@@ -82,12 +85,16 @@ fn one(args: &Args, plan: &Plan, path: &Path, size: Option<u64>, out: &mut Out) 
         false => payload::judge(&mut opened, &dated)?,
     };
     let screen = screen.split(" (slot").next().unwrap_or_default().to_string();
+    let slots = count(plan.lines.len(), "slot");
     if opened.card.get_ref().is_dry() {
-        dry::report(&opened.card, &shown, &notes, out)?;
-    } else if changed > 0 {
+        dry::changes(&opened.card, &shown, &notes, out)?;
+        out.line(format!("{shown}: would be done: {slots}, {changed} changed; {screen}"));
+        return Ok(());
+    }
+    if changed > 0 {
         tell_kernel(opened.card.get_ref(), out);
     }
-    out.line(format!("{shown}: done: {}, {changed} changed; {screen}", count(plan.lines.len(), "slot")));
+    out.line(format!("{shown}: done: {slots}, {changed} changed; {screen}"));
     Ok(())
 }
 

@@ -21,8 +21,20 @@ fn name_of(card: &FileCard<Medium>, block: u64) -> Option<String> {
     }
 }
 
-/// A line a block, then the payload's notes.
+/// The last line of a dry run.
+pub fn end(out: &mut Out) {
+    out.line("dry run: nothing was written".to_string());
+}
+
+/// A line a block, the payload's notes, and the last line.
 pub fn report(card: &FileCard<Medium>, shown: &str, notes: &[String], out: &mut Out) -> Outcome {
+    changes(card, shown, notes, out)?;
+    end(out);
+    Ok(())
+}
+
+/// A line a block, then the payload's notes.
+pub fn changes(card: &FileCard<Medium>, shown: &str, notes: &[String], out: &mut Out) -> Outcome {
     let changes = card.get_ref().changes(card.block_size().bytes()).map_err(|failure| io_failure(shown, &failure))?;
     for (block, differ) in changes {
         if let Some(name) = name_of(card, block) {
@@ -33,6 +45,5 @@ pub fn report(card: &FileCard<Medium>, shown: &str, notes: &[String], out: &mut 
     for note in notes {
         out.line(note.clone());
     }
-    out.line("dry run: nothing was written".to_string());
     Ok(())
 }

@@ -99,7 +99,7 @@ pub fn lay_on(medium: Medium, path: &Path, block_size: BlockSize, guid: Guid) ->
 fn finish_lay(card: &FileCard<Medium>, shown: &str, out: &mut Out) -> Outcome {
     if card.get_ref().is_dry() {
         if card.get_ref().is_blank() {
-            out.line(format!("would make {shown} with {} bytes", card.get_ref().length_now().map_err(|failure| io_failure(shown, &failure))?));
+            out.line(format!("{shown} would be made, with {} bytes", card.get_ref().length_now().map_err(|failure| io_failure(shown, &failure))?));
         }
         return dry::report(card, shown, &[], out);
     }
