@@ -27,10 +27,10 @@ pub fn apply(mut args: Args, out: &mut Out) -> Outcome {
     let mut failed = 0;
     for file in &files {
         let path = Path::new(file);
-        if let Err(failure) = one(&args, &plan, path, size, out) {
+        let mut touched = false;
+        if let Err(failure) = one(&args, &plan, path, size, &mut touched, out) {
             failed += 1;
-            let words = failure.words().unwrap_or_default();
-            out.line(format!("{}: failed: {}", path.display(), words.strip_prefix(&format!("{}: ", path.display())).unwrap_or(&words)));
+            out.line(format!("{}: failed: {}", path.display(), failed_words(&failure, path, touched)));
             if worst.as_ref().map_or(true, |worst| worst.status() < failure.status()) {
                 worst = Some(failure);
             }
@@ -50,6 +50,16 @@ pub fn apply(mut args: Args, out: &mut Out) -> Outcome {
     }
 }
 
+/// The words of a failure behind the card's name. Where bytes of the card were changed before it, they say so.
+fn failed_words(failure: &Failure, path: &Path, touched: bool) -> String {
+    let words = failure.words().unwrap_or_default();
+    let words = words.strip_prefix(&format!("{}: ", path.display())).unwrap_or(&words).to_string();
+    match touched {
+        true => words.replace(" Nothing was changed.", " What was done before stays."),
+        false => words,
+    }
+}
+
 /// Every map of the plan can be opened, and none has a label of its own where the plan gives one.
 fn sources_are_there(plan: &Plan) -> Outcome {
     for line in &plan.lines {
@@ -65,11 +75,13 @@ fn sources_are_there(plan: &Plan) -> Outcome {
 }
 
 /// One card.
-fn one(args: &Args, plan: &Plan, path: &Path, size: Option<u64>, out: &mut Out) -> Outcome {
-    let mut opened = card_of(args, plan, path, size, out)?;
+fn one(args: &Args, plan: &Plan, path: &Path, size: Option<u64>, touched: &mut bool, out: &mut Out) -> Outcome {
+    let mut opened = card_of(args, plan, path, size, touched, out)?;
     let (shown, mut notes, mut changed) = (opened.shown(), Vec::new(), 0);
     for line in &plan.lines {
-        let done = slot(args, &mut opened, line, &mut notes)?;
+        let done = slot(args, &mut opened, line, &mut notes);
+        *touched |= opened.card.get_ref().written() > 0 && !opened.card.get_ref().is_dry();
+        let done = done?;
         changed += usize::from(!done.is_empty());
         let done = if done.is_empty() { "as planned".to_string() } else { done.join(", ") };
         out.line(format!("{shown}: slot {}: {done}", line.slot));
@@ -99,7 +111,7 @@ fn one(args: &Args, plan: &Plan, path: &Path, size: Option<u64>, out: &mut Out) 
 }
 
 /// The card in a file, which is laid first where the plan asks for it and the file is none.
-fn card_of(args: &Args, plan: &Plan, path: &Path, size: Option<u64>, out: &mut Out) -> Outcome<Opened> {
+fn card_of(args: &Args, plan: &Plan, path: &Path, size: Option<u64>, touched: &mut bool, out: &mut Out) -> Outcome<Opened> {
     let shown = path.display().to_string();
     let (medium, made) = match plan.lay {
         true => medium_to_lay(args, path, size)?,
@@ -130,6 +142,7 @@ fn card_of(args: &Args, plan: &Plan, path: &Path, size: Option<u64>, out: &mut O
     };
     let again = if opened.card.get_ref().is_dry() { again.again_in_memory().map_err(|failure| io_failure(&shown, &failure))? } else { again };
     let card = lay_on(again, path, block_size, guid)?;
+    *touched = !card.get_ref().is_dry();
     out.changed = true;
     out.line(format!("{shown}: laid: {} blocks of {} bytes ({}), GUID {guid}", card.blocks(), opened.b(), words::size(card.blocks() * opened.b())));
     Opened::of(card.into_inner(), path, block_size, access(args))

@@ -115,6 +115,11 @@ pub fn number<T: TryFrom<u64>>(text: &str) -> Result<T, String> {
     value.and_then(|value| T::try_from(value).ok()).ok_or_else(|| if digits { format!("{text} is too large") } else { format!("{text:?} is no number") })
 }
 
+/// A slot's number. One that no slot has is the library's to refuse, as far as it takes the number.
+pub fn slot(text: &str) -> Result<u64, String> {
+    number(text).map_err(|_| format!("{text:?} is no slot: a number from 1 to 128"))
+}
+
 /// A size with its unit.
 #[derive(Clone, Copy, Debug, PartialEq, Eq)]
 pub enum Size {

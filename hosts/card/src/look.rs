@@ -92,8 +92,7 @@ pub fn show(mut args: Args, out: &mut Out) -> Outcome {
     let opened = opened(&mut args)?;
     let checked = opened.card.check();
     let Ok(table) = opened.card.reader_copy() else {
-        let why = checked.err().and_then(|error| error.refused()).map_or(String::new(), |refused| opened.check_words(refused));
-        return Err(Failure::Refused(format!("{}: neither table can be read: {why}. [27]", opened.shown())));
+        return Err(Failure::Refused(format!("{}: neither table can be read: {}. [27]", opened.shown(), opened.unread_words())));
     };
     out.line(format!("the reader takes the {} table", name_of(table)));
     let entries: Vec<Entry> = opened.checked(opened.card.reader_list())?.collect();

@@ -19,6 +19,8 @@ pub struct Medium {
     length: Option<u64>,
     /// Whether each write is stored before the next one is taken.
     ordered: bool,
+    /// How many bytes were written in all.
+    written: u64,
     /// Whether this stands for a file that a dry run does not make.
     blank: bool,
     /// What a dry run would have written, by its piece of the file.
@@ -85,7 +87,7 @@ impl Medium {
         let failed = |failure: io::Error| io_failure(shown, &failure);
         system::lock(&file, access.writes(), || eprintln!("card: waiting for {shown}, which another program has locked")).map_err(failed)?;
         let dry = matches!(access, Access::Write { dry: true, .. }).then(BTreeMap::new);
-        let medium = Medium { file, place: 0, length: None, ordered: false, blank: false, dry };
+        let medium = Medium { file, place: 0, length: None, ordered: false, written: 0, blank: false, dry };
         if let Access::Write { mounted: false, .. } = access {
             if let Some(folder) = medium.mounted_at().map_err(failed)? {
                 return Err(Failure::Refused(format!("{shown} is mounted at {folder}. Nothing was changed. Unmount it, or say --mounted")));
@@ -128,7 +130,7 @@ impl Medium {
 
     /// The same file once more, as it is now, to look at in another way. A dry run's writes are seen there too.
     pub fn again(&self, length: Option<u64>) -> io::Result<Medium> {
-        Ok(Medium { file: self.file.try_clone()?, place: 0, length, ordered: false, blank: self.blank, dry: self.dry.clone() })
+        Ok(Medium { file: self.file.try_clone()?, place: 0, length, ordered: false, written: 0, blank: self.blank, dry: self.dry.clone() })
     }
 
     /// The same, with what is written kept in memory.
@@ -142,6 +144,11 @@ impl Medium {
     pub fn in_order(mut self) -> Medium {
         self.ordered = true;
         self
+    }
+
+    /// How many bytes were written in all, also by a write that failed in the middle.
+    pub fn written(&self) -> u64 {
+        self.written
     }
 
     /// Whether nothing is written.
@@ -241,6 +248,7 @@ impl Write for Medium {
             return Err(io::Error::new(io::ErrorKind::WriteZero, "the device takes no more bytes"));
         }
         self.place += count as u64;
+        self.written += count as u64;
         Ok(count)
     }
 

@@ -3,7 +3,7 @@ use crate::args::{number, Args};
 use crate::failure::{io_failure, system_words, Failure, Outcome};
 use crate::medium::{Access, Medium};
 use crate::words::quoted;
-use card::{ffi, BlockSize, FileCard, FileError, Name, Place, Refusal, Refused, Table};
+use card::{ffi, BlockSize, FileCard, FileError, Guid, Name, Place, Refusal, Refused, Table};
 use std::path::{Path, PathBuf};
 
 /// A card in a file or device.
@@ -15,10 +15,12 @@ pub struct Opened {
 
 /// The block size that was asked for; else the device's own, or 512.
 pub fn block_size(args: &Args, medium: &Medium, shown: &str) -> Outcome<BlockSize> {
-    let given = args.value("block-size", number)?;
-    let own = medium.own_block_size().map_err(|failure| io_failure(shown, &failure))?;
-    let bytes: u64 = given.or(own).unwrap_or(512);
-    BlockSize::try_from(bytes).map_err(|_| Failure::Refused(format!("blocks of {bytes} bytes: a card has blocks of 512 or 4096. [1]")))
+    let known = |text: &str| number(text).ok().and_then(|bytes: u64| BlockSize::try_from(bytes).ok()).ok_or_else(|| format!("{text} is neither 512 nor 4096"));
+    if let Some(given) = args.value("block-size", known)? {
+        return Ok(given);
+    }
+    let own = medium.own_block_size().map_err(|failure| io_failure(shown, &failure))?.unwrap_or(512);
+    BlockSize::try_from(own).map_err(|_| Failure::Refused(format!("{shown} has blocks of {own} bytes, and a card has blocks of 512 or 4096. [1]")))
 }
 
 impl Opened {
@@ -79,6 +81,17 @@ impl Opened {
 
     /// What the check found, and what to do next.
     pub fn check_words(&self, refused: Refused) -> String {
+        self.words_of(refused, "neither table can be read: lay it anew, or read it by card uefi")
+    }
+
+    /// Why neither table can be read, and what might help.
+    pub fn unread_words(&self) -> String {
+        let refused = self.card.check().err().and_then(|error| error.refused());
+        refused.map_or(String::new(), |refused| self.words_of(refused, ""))
+    }
+
+    /// The same, with what is said where nothing helps.
+    fn words_of(&self, refused: Refused, lost: &str) -> String {
         let table = match refused.place {
             Some(Place::Front) => "front",
             Some(Place::Back) => "back",
@@ -89,7 +102,11 @@ impl Opened {
             }
             None => return refused.to_string(),
         };
-        format!("{table} table: {}; {}", table_words(refused.refusal), self.next_step())
+        match self.next_step() {
+            Some(step) => format!("{table} table: {}; {step}", table_words(refused.refusal)),
+            None if lost.is_empty() => format!("{table} table: {}", table_words(refused.refusal)),
+            None => format!("{table} table: {}; {lost} {}", table_words(refused.refusal), self.shown()),
+        }
     }
 
     /// Where both tables are whole and differ, the one that is shown.
@@ -102,20 +119,17 @@ impl Opened {
     }
 
     /// What helps with a table that cannot be read.
-    fn next_step(&self) -> String {
+    fn next_step(&self) -> Option<String> {
         match self.card.reader_copy() {
-            Ok(Table::Front) => return format!("the front is good: card repair {}", self.shown()),
-            Ok(Table::Back) => return format!("the back is good: card repair {}", self.shown()),
+            Ok(Table::Front) => return Some(format!("the front is good: card repair {}", self.shown())),
+            Ok(Table::Back) => return Some(format!("the back is good: card repair {}", self.shown())),
             Err(_) => {}
         }
-        if let Some(shorter) = self.shorter() {
-            return format!("it is laid for {} blocks, and the file has {}: card grow {}", shorter.blocks(), self.card.blocks(), self.shown());
+        if let Some((shorter, _)) = self.shorter() {
+            return Some(format!("it is laid for {} blocks, and the file has {}: card grow {}", shorter.blocks(), self.card.blocks(), self.shown()));
         }
         let other = other_size(self.card.block_size());
-        if self.at_other_size().is_some() {
-            return format!("a card with blocks of {other} bytes is there: try -b {other}");
-        }
-        format!("neither table can be read: lay it anew, or read it by card uefi {}", self.shown())
+        self.at_other_size().map(|_| format!("a card with blocks of {other} bytes is there: try -b {other}"))
     }
 
     /// The card at the other block size, if the reader shows one there.
@@ -125,8 +139,8 @@ impl Opened {
         card.reader_copy().is_ok().then_some(card)
     }
 
-    /// The card that a front table for a shorter file describes, if that table is good for it.
-    pub fn shorter(&self) -> Option<FileCard<Medium>> {
+    /// The card that a front table for a shorter file describes, if that table is good for it, and its disk GUID.
+    pub fn shorter(&self) -> Option<(FileCard<Medium>, Guid)> {
         let head = self.card.head();
         // SAFETY: the pointer and the length are those of one slice, which is only read.
         let read = unsafe { ffi::gpt_read_primary_header(head.as_ptr(), head.len(), self.b()) };
@@ -136,7 +150,8 @@ impl Opened {
         }
         let medium = self.card.get_ref().again(blocks.checked_mul(self.b())).ok()?;
         let card = FileCard::open(medium, self.card.block_size()).ok()?;
-        matches!(card.reader_copy(), Ok(Table::Front)).then_some(card)
+        let ffi::gpt_guid { time_low, time_mid, time_high, tail } = read.header.disk_guid;
+        matches!(card.reader_copy(), Ok(Table::Front)).then(|| (card, Guid::from_fields(time_low, time_mid, time_high, tail)))
     }
 
     /// What each table has in a slot, front and back.

@@ -7,7 +7,7 @@ use crate::opened::{io_words, Opened};
 use crate::output::Out;
 use crate::progress::Progress;
 use crate::system;
-use crate::table::{access, slot_refusal};
+use crate::table::{access, slot_of, slot_refusal, LEFT};
 use crate::words;
 use card::{crc32_next, FileError, Label, Record, Refusal, FRESH};
 use std::ffi::OsString;
@@ -40,13 +40,13 @@ fn not_done(opened: &Opened, slot: u32, verb: &str, place: u64, bytes: u64, erro
 pub fn write(mut args: Args, out: &mut Out) -> Outcome {
     let (path, slot, source) = (PathBuf::from(args.word("FILE")?), args.word("SLOT")?, args.word("SOURCE")?);
     args.end()?;
-    let slot: u32 = args.read(&slot, number)?;
+    let slot = slot_of(&args, &slot, "written", LEFT)?;
     let at = args.value("at", args::bytes)?.unwrap_or(0);
     let mut source = Source::open(&source)?;
     let mut opened = Opened::open(&args, &path, access(&args))?;
     opened.checked(opened.card.check())?;
-    // What is too long is refused before a byte is written. How long a pipe is shows only when it ends.
-    let length = source.length.unwrap_or(0);
+    // What is too long is refused before a byte is written. How long a pipe is shows only when it ends, which may be at once.
+    let length = source.at_least()?;
     opened.card.payload_place(slot, at, length as usize).map_err(|error| not_done(&opened, slot, "written", at, length, error))?;
     if opened.card.get_ref().is_dry() {
         let note = dry_note(&opened, slot, at, length)?;
@@ -67,13 +67,15 @@ pub struct Source {
     from: Box<dyn Read>,
     /// How many there are, if that can be told beforehand.
     pub length: Option<u64>,
+    /// Those that were read ahead.
+    ahead: Vec<u8>,
 }
 
 impl Source {
     /// A file, or standard input for `-`.
     fn open(name: &OsString) -> Outcome<Source> {
         if name == "-" {
-            return Ok(Source { name: "standard input".into(), from: Box::new(io::stdin().lock()), length: None });
+            return Ok(Source { name: "standard input".into(), from: Box::new(io::stdin().lock()), length: None, ahead: vec![] });
         }
         Source::file(Path::new(name))
     }
@@ -91,12 +93,26 @@ impl Source {
             true => Some(about.len()),
             false => file.seek(SeekFrom::End(0)).and_then(|length| file.rewind().map(|()| length)).ok(),
         };
-        Ok(Source { name, from: Box::new(file), length })
+        Ok(Source { name, from: Box::new(file), length, ahead: vec![] })
+    }
+
+    /// How many bytes there are: all, or of a pipe as many as are moved at once.
+    fn at_least(&mut self) -> Outcome<u64> {
+        if let Some(length) = self.length {
+            return Ok(length);
+        }
+        let mut chunk = vec![0; CHUNK];
+        let count = self.fill(&mut chunk)?;
+        chunk.truncate(count);
+        self.ahead = chunk;
+        Ok(count as u64)
     }
 
     /// The next bytes, as many as there is room for unless the source ends.
     pub fn fill(&mut self, room: &mut [u8]) -> Outcome<usize> {
-        let mut done = 0;
+        let mut done = room.len().min(self.ahead.len());
+        room[..done].copy_from_slice(&self.ahead[..done]);
+        self.ahead.drain(..done);
         while done < room.len() {
             match self.from.read(&mut room[done..]) {
                 Ok(0) => break,
@@ -118,7 +134,9 @@ pub fn copy_in(opened: &mut Opened, slot: u32, at: u64, source: &mut Source, pro
         if count == 0 {
             break;
         }
+        let begun = opened.card.get_ref().written();
         if let Err(error) = opened.card.write_payload(slot, at + done, &chunk[..count]) {
+            done += opened.card.get_ref().written() - begun;
             return Err(half_written(opened, slot, at, done, count as u64, error));
         }
         sum = crc32_next(sum, &chunk[..count]);
@@ -138,7 +156,8 @@ fn half_written(opened: &Opened, slot: u32, at: u64, done: u64, count: u64, erro
     match error {
         FileError::Refused(refused) => {
             let why = refusal_words(opened, slot, at + done, count, refused.refusal);
-            Failure::Refused(format!("slot {slot} not written whole: {why}. {left} [{}]", refused.number()))
+            let whole = if done == 0 { "" } else { " whole" };
+            Failure::Refused(format!("slot {slot} not written{whole}: {why}. {left} [{}]", refused.number()))
         }
         other => match io_words(&opened.path, other) {
             Failure::Io(words) => Failure::Io(format!("{words}. Slot {slot} is not written whole: {done} bytes from place {at} on were written before")),
@@ -185,7 +204,11 @@ pub fn wipe(opened: &mut Opened, slot: u32, record: &Record, args: &Args, notes:
     let mut progress = Progress::new(args, "wiped", Some(bytes));
     while done < bytes {
         let count = (bytes - done).min(CHUNK as u64) as usize;
-        opened.card.write_payload(slot, done, &zeros[..count]).map_err(|error| half_written(opened, slot, 0, done, count as u64, error))?;
+        let begun = opened.card.get_ref().written();
+        if let Err(error) = opened.card.write_payload(slot, done, &zeros[..count]) {
+            done += opened.card.get_ref().written() - begun;
+            return Err(half_written(opened, slot, 0, done, count as u64, error));
+        }
         done += count as u64;
         progress.at(done);
     }
@@ -197,7 +220,7 @@ pub fn wipe(opened: &mut Opened, slot: u32, record: &Record, args: &Args, notes:
 pub fn read(mut args: Args, out: &mut Out) -> Outcome {
     let (path, slot) = (PathBuf::from(args.word("FILE")?), args.word("SLOT")?);
     args.end()?;
-    let slot: u32 = args.read(&slot, number)?;
+    let slot = slot_of(&args, &slot, "read", "")?;
     let at = args.value("at", args::bytes)?.unwrap_or(0);
     let asked = args.value("length", args::bytes)?;
     let mut opened = Opened::open(&args, &path, Access::Read)?;
@@ -225,9 +248,9 @@ fn label_parts(args: &Args) -> Outcome<LabelParts> {
 pub fn label(mut args: Args, out: &mut Out) -> Outcome {
     let (path, slot) = (PathBuf::from(args.word("FILE")?), args.word("SLOT")?);
     args.end()?;
-    let slot: u32 = args.read(&slot, number)?;
     let parts = label_parts(&args)?;
     let reads = parts.is_empty();
+    let slot = slot_of(&args, &slot, "labelled", if reads { "" } else { LEFT })?;
     let mut opened = Opened::open(&args, &path, if reads { Access::Read } else { access(&args) })?;
     opened.checked(opened.card.check())?;
     let there = opened.card.read_label(slot);
@@ -270,7 +293,10 @@ pub fn write_label(opened: &mut Opened, slot: u32, label: Label) -> Outcome {
 fn label_failure(opened: &mut Opened, slot: u32, error: FileError) -> Failure {
     let mut bytes = [0; 13];
     let read = opened.card.read_payload(slot, 0, &mut bytes).is_ok();
-    opened.failure(error, |refusal| format!("{}.", label_words(slot, refusal, &bytes, read)))
+    opened.failure(error, |refusal| match refusal {
+        Refusal::BadSlot | Refusal::EmptySlot => format!("slot {slot} not labelled: {}.", slot_refusal(slot, refusal)),
+        other => format!("{}.", label_words(slot, other, &bytes, read)),
+    })
 }
 
 fn label_words(slot: u32, refusal: Refusal, bytes: &[u8; 13], read: bool) -> String {

@@ -142,15 +142,28 @@ fn fields(text: &str) -> Result<Vec<(String, String)>, String> {
     Ok(fields)
 }
 
-/// The text up to the closing quote, and what stands behind it. A backslash keeps the next character as it is.
+/// The text up to the closing quote, and what stands behind it. Behind a backslash `x` and two hexadecimal digits are a byte, as sfdisk writes what is not plain; any other character is itself.
 fn unquote(text: &str) -> Result<(String, &str), String> {
-    let mut value = String::new();
-    let mut chars = text.char_indices();
-    while let Some((place, c)) = chars.next() {
-        match c {
-            '"' => return Ok((value, &text[place + 1..])),
-            '\\' => value.extend(chars.next().map(|(_, c)| c)),
-            _ => value.push(c),
+    let bytes = text.as_bytes();
+    let (mut value, mut place) = (Vec::new(), 0);
+    while let Some(byte) = bytes.get(place) {
+        match (byte, bytes.get(place + 1), text.get(place + 2..place + 4).and_then(|digits| u8::from_str_radix(digits, 16).ok())) {
+            (b'"', ..) => {
+                let value = String::from_utf8(value).map_err(|_| "a value is no text")?;
+                return Ok((value, &text[place + 1..]));
+            }
+            (b'\\', Some(b'x'), Some(byte)) => {
+                value.push(byte);
+                place += 4;
+            }
+            (b'\\', Some(other), _) => {
+                value.push(*other);
+                place += 2;
+            }
+            (other, ..) => {
+                value.push(*other);
+                place += 1;
+            }
         }
     }
     Err("a quote is not closed".into())

@@ -37,15 +37,18 @@ pub fn lock(file: &File, exclusive: bool, wait: impl FnOnce()) -> Result<()> {
             _ => Err(Error::last_os_error()),
         }
     };
-    match locked(operation | LOCK_NO_WAIT) {
-        Err(failure) if failure.kind() == ErrorKind::WouldBlock => wait(),
-        done => return done,
-    }
-    loop {
+    let again = |operation| loop {
         match locked(operation) {
             Err(failure) if failure.kind() == ErrorKind::Interrupted => {}
             done => return done,
         }
+    };
+    match again(operation | LOCK_NO_WAIT) {
+        Err(failure) if failure.kind() == ErrorKind::WouldBlock => {
+            wait();
+            again(operation)
+        }
+        done => done,
     }
 }
 

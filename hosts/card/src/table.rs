@@ -8,7 +8,8 @@ use crate::opened::{block_size, io_words, too_small, Opened};
 use crate::output::Out;
 use crate::payload;
 use crate::words::{self, count, quoted};
-use card::{BlockSize, Device, FileCard, FileError, FileStaged, Flags, Guid, Name, Record, Refusal, Table};
+use card::{BlockSize, Device, Entry, FileCard, FileError, FileStaged, Flags, Guid, Name, Record, Refusal, Table};
+use std::ffi::OsString;
 use std::fs::{self, OpenOptions};
 use std::io::{self, Seek, SeekFrom, Write};
 use std::ops::RangeInclusive;
@@ -68,6 +69,7 @@ fn laid(args: &Args, mut medium: Medium, path: &Path, size: Option<u64>, guid: O
         if bytes != 0 || medium.is_device() {
             return Err(Failure::Refused(format!("{shown} has {bytes} bytes, not the {size} of --size. Nothing was changed.")));
         }
+        room_for(path, size, block_size, access(args))?;
         match medium.is_dry() {
             true => medium = Medium::blank(size, access(args))?,
             false => medium.file().set_len(size).map_err(failed)?,
@@ -85,13 +87,25 @@ fn laid(args: &Args, mut medium: Medium, path: &Path, size: Option<u64>, guid: O
     finish_lay(&card, &shown, out)
 }
 
+/// Whether a file of so many bytes has room for a card, which the library says of as many zeros.
+fn room_for(path: &Path, size: u64, block_size: BlockSize, access: Access) -> Outcome {
+    match FileCard::open(Medium::blank(size, access)?, block_size) {
+        Err(FileError::Refused(refused)) => Err(Failure::Refused(not_laid(path, size, block_size, refused.number()))),
+        Err(other) => Err(io_words(path, other)),
+        Ok(_) => Ok(()),
+    }
+}
+
+/// Why a file is too small.
+fn not_laid(path: &Path, bytes: u64, block_size: BlockSize, number: u32) -> String {
+    format!("{} not laid: {} Nothing was changed. [{number}]", path.display(), too_small(bytes, block_size))
+}
+
 /// Lays a card on a medium, each block stored before the next.
 pub fn lay_on(medium: Medium, path: &Path, block_size: BlockSize, guid: Guid) -> Outcome<FileCard<Medium>> {
     let bytes = medium.length_now().unwrap_or(0);
     FileCard::lay(medium.in_order(), block_size, guid).map_err(|error| match error {
-        FileError::Refused(refused) => {
-            Failure::Refused(format!("{} not laid: {} Nothing was changed. [{}]", path.display(), too_small(bytes, block_size), refused.number()))
-        }
+        FileError::Refused(refused) => Failure::Refused(not_laid(path, bytes, block_size, refused.number())),
         other => io_words(path, other),
     })
 }
@@ -187,11 +201,20 @@ pub fn begun<'a>(result: Result<FileStaged<'a, Medium>, FileError>, shown: &str,
     }
 }
 
+/// The slot that a word names. One that is too large for the library to take is refused by the number that it has for such slots.
+pub fn slot_of(args: &Args, word: &OsString, verb: &str, left: &str) -> Outcome<u32> {
+    let slot = args.read(word, args::slot)?;
+    u32::try_from(slot).map_err(|_| Failure::Refused(format!("slot {slot} not {verb}: there is no slot {slot}: a card has slots 1 to 128.{left} [18]")))
+}
+
+/// What a refused command that writes leaves.
+pub const LEFT: &str = " Nothing was changed.";
+
 /// The slot that a word names; `None` for `next`.
-fn slot_or_next(args: &Args, word: &std::ffi::OsString) -> Outcome<Option<u32>> {
+fn slot_or_next(args: &Args, word: &OsString) -> Outcome<Option<u32>> {
     match word.to_str() {
         Some("next") => Ok(None),
-        _ => args.read(word, |text| number(text).map_err(|_| format!("{text:?} is no slot: a number from 1 to 128, or next"))).map(Some),
+        _ => slot_of(args, word, "put", LEFT).map(Some),
     }
 }
 
@@ -338,18 +361,26 @@ fn finish(opened: &Opened, carried: Carried, done: impl FnOnce() -> String, out:
     Ok(())
 }
 
+/// A dry run says so also where there is nothing to do.
+fn nothing_to_do(opened: &Opened, out: &mut Out) -> Outcome {
+    if opened.card.get_ref().is_dry() {
+        dry::end(out);
+    }
+    Ok(())
+}
+
 /// `clear FILE SLOT [--wipe]`
 pub fn clear(mut args: Args, out: &mut Out) -> Outcome {
     let (path, slot) = (PathBuf::from(args.word("FILE")?), args.word("SLOT")?);
     args.end()?;
-    let slot: u32 = args.read(&slot, number)?;
+    let slot = slot_of(&args, &slot, "cleared", LEFT)?;
     let last = stop_after(&args, 4)?;
     let mut opened = Opened::open(&args, &path, access(&args))?;
     opened.checked(opened.card.check())?;
     let said = |refusal| format!("slot {slot} not cleared: {}. Nothing was changed.", slot_refusal(slot, refusal));
     let Some(record) = opened.card.get(slot).map_err(|error| opened.failure(error, said))? else {
         out.line(format!("slot {slot} was not used"));
-        return Ok(());
+        return nothing_to_do(&opened, out);
     };
     let mut notes = Vec::new();
     if args.has("wipe") {
@@ -381,12 +412,11 @@ pub fn repair(mut args: Args, out: &mut Out) -> Outcome {
     let last = stop_after(&args, stages)?;
     if opened.card.check().is_ok() {
         out.line("nothing to repair: the check accepts the card".to_string());
-        return Ok(());
+        return nothing_to_do(&opened, out);
     }
     let shown = opened.shown();
     let Ok(from) = opened.card.reader_copy() else {
-        let words = opened.card.check().err().and_then(|error| error.refused()).map_or(String::new(), |refused| opened.check_words(refused));
-        return Err(Failure::Refused(format!("{shown} not repaired: {words}. Nothing was changed. [27]")));
+        return Err(Failure::Refused(format!("{shown} not repaired: neither table can be read: {}. Nothing was changed. [27]", opened.unread_words())));
     };
     let other = if from == Table::Front { Table::Back } else { Table::Front };
     let (from, other) = (name_of(from), name_of(other));
@@ -410,26 +440,23 @@ pub fn repair(mut args: Args, out: &mut Out) -> Outcome {
 
 /// `grow FILE`: the same slots on all blocks of a file that has become longer.
 ///
-/// The new tables are made in memory by the library: a card of the new length is laid there with the same GUID, and each slot is put again. The back table is stored first, behind the old
-/// card's end, where it changes nothing that the old front table describes. Then the front header, one block, turns the card over to the new length; the front array stays as it is. So wherever
-/// it is cut, the card is the shorter one or the longer one, with the same slots.
+/// The new tables are made in memory by the library: a card of the new length is laid there with the same GUID, and each slot that the reader shows of the shorter card is put again. The back
+/// table is stored first: the front one, which is good for the shorter length, stays what it is. Then the front header, one block, turns the card over to the new length; the front array
+/// stays as it is. So wherever it is cut, the front table is good for the shorter length or one of the two for the longer one, with the same slots.
 pub fn grow(mut args: Args, out: &mut Out) -> Outcome {
     let opened = opened(&mut args)?;
     args.end()?;
     let shown = opened.shown();
     if opened.card.check().is_ok() {
         out.line(format!("nothing to grow: the card has all {} blocks of the file", opened.card.blocks()));
-        return Ok(());
+        return nothing_to_do(&opened, out);
     }
-    let Some(before) = opened.shorter() else {
+    let Some((before, guid)) = opened.shorter() else {
         return Err(Failure::Refused(format!("{shown} not grown: it has no front table that is good for a shorter file. Nothing was changed.")));
     };
-    if let Err(error) = before.check() {
-        let words = error.refused().map_or_else(|| error.to_string(), |refused| refused.to_string());
-        return Err(Failure::Refused(format!("{shown} not grown: at its {} blocks the card is not whole: {words}. Nothing was changed.", before.blocks())));
-    }
-    let (old, slots) = (before.blocks(), before.count().map_err(|error| io_words(&opened.path, error))?);
-    let grown = grown(&opened, &before)?;
+    let entries: Vec<Entry> = before.reader_list().map_err(|error| io_words(&opened.path, error))?.collect();
+    let (old, slots) = (before.blocks(), entries.len());
+    let grown = grown(&opened, guid, &entries)?;
     let mut medium = opened.card.get_ref().again(None).map_err(|failure| io_failure(&shown, &failure))?;
     store_grown(&mut medium, &grown)
         .map_err(|failure| Failure::Io(format!("{shown}: {}. card show {shown} says what it shows; card grow {shown} goes on", system_words(&failure))))?;
@@ -446,14 +473,14 @@ pub fn grow(mut args: Args, out: &mut Out) -> Outcome {
 }
 
 /// The card at the new length, in memory, with the slots of the shorter one.
-fn grown(opened: &Opened, before: &FileCard<Medium>) -> Outcome<FileCard<Medium>> {
+fn grown(opened: &Opened, guid: Guid, entries: &[Entry]) -> Outcome<FileCard<Medium>> {
     let failed = |error: FileError| match error {
         FileError::Refused(refused) => Failure::Refused(format!("{} not grown: {refused}. Nothing was changed. [{}]", opened.shown(), refused.number())),
         other => io_words(&opened.path, other),
     };
     let memory = opened.card.get_ref().again_in_memory().map_err(|failure| io_failure(&opened.shown(), &failure))?;
-    let mut card = FileCard::lay(memory, opened.card.block_size(), before.disk_guid().map_err(failed)?).map_err(failed)?;
-    for entry in before.list().map_err(failed)? {
+    let mut card = FileCard::lay(memory, opened.card.block_size(), guid).map_err(failed)?;
+    for entry in entries {
         card.put(entry.slot, &entry.record).map_err(failed)?;
     }
     Ok(card)
