@@ -19,35 +19,9 @@ impl Args {
         let (mut words, mut options) = (Vec::new(), Vec::new());
         let mut given = given.into_iter();
         while let Some(word) = given.next() {
-            let text = word.to_string_lossy().into_owned();
-            match text.strip_prefix('-') {
+            match word.to_string_lossy().strip_prefix('-') {
                 Some("-") => words.extend(given.by_ref()),
-                Some(rest) if !rest.is_empty() => {
-                    let (name, value) = rest
-                        .strip_prefix('-')
-                        .unwrap_or(rest)
-                        .split_once('=')
-                        .map_or((rest.trim_start_matches('-'), None), |(name, value)| (name, Some(value.to_string())));
-                    let name = match rest {
-                        "b" => "block-size",
-                        "h" => "help",
-                        _ if rest.starts_with('-') => name,
-                        _ => "",
-                    };
-                    let Some((name, takes)) = known.iter().find(|(known, _)| *known == name) else {
-                        return Err(Failure::Usage(format!("{text} is no option of {command}"), command));
-                    };
-                    let value = match (takes, value) {
-                        (None, None) => String::new(),
-                        (None, Some(_)) => return Err(Failure::Usage(format!("--{name} takes no value"), command)),
-                        (Some(_), Some(value)) => value,
-                        (Some(what), None) => match given.next() {
-                            Some(value) => value.to_string_lossy().into_owned(),
-                            None => return Err(Failure::Usage(format!("--{name} wants {what}"), command)),
-                        },
-                    };
-                    options.push((*name, value));
-                }
+                Some(rest) if !rest.is_empty() => options.push(option(&word, &mut given, known).map_err(|words| Failure::Usage(words, command))?),
                 _ => words.push(word),
             }
         }
@@ -106,6 +80,30 @@ impl Args {
             Err(words) => self.usage(words),
         }
     }
+}
+
+/// An option and its value, which stands behind an equals sign or is the next word.
+fn option(word: &OsString, given: &mut impl Iterator<Item = OsString>, known: &[Switch]) -> Result<(&'static str, String), String> {
+    let text = word.to_str().ok_or_else(|| format!("{} is no text", word.to_string_lossy()))?;
+    let (name, value) = text.split_once('=').map_or((text, None), |(name, value)| (name, Some(value)));
+    let name = match name {
+        "-b" => "block-size",
+        "-h" => "help",
+        _ => name.strip_prefix("--").unwrap_or(""),
+    };
+    let Some((name, takes)) = known.iter().find(|(known, _)| *known == name) else {
+        return Err(format!("{text} is no option here"));
+    };
+    let value = match (takes, value) {
+        (None, None) => String::new(),
+        (None, Some(_)) => return Err(format!("--{name} takes no value")),
+        (Some(_), Some(value)) => value.to_string(),
+        (Some(what), None) => {
+            let value = given.next().ok_or_else(|| format!("--{name} wants {what}"))?;
+            value.into_string().map_err(|value| format!("--{name} {} is no text", value.to_string_lossy()))?
+        }
+    };
+    Ok((name, value))
 }
 
 /// A number, in digits.
