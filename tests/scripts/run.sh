@@ -210,7 +210,7 @@ cd - >/dev/null || exit 1
 makes="$room/makes"
 mkdir "$makes"
 cp tests/outside.sh "$copy/tests/outside.sh"
-for name in python3 cmp cc cargo install valgrind sgdisk sfdisk fdisk parted; do
+for name in python3 cmp cc cargo install valgrind sgdisk sfdisk fdisk parted dpkg-deb; do
     printf '#!/bin/sh\n' >"$makes/$name"
 done
 cat >"$makes/make" <<'END'
