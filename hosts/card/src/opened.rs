@@ -100,7 +100,7 @@ impl Opened {
                 let [front, back] = self.names(slot);
                 return format!("the two tables differ, first in slot {slot} ({front} in front, {back} at the back); {}", self.reader_takes());
             }
-            None => return refused.to_string(),
+            _ => return refused.to_string(),
         };
         match self.next_step() {
             Some(step) => format!("{table} table: {}; {step}", table_words(refused.refusal)),

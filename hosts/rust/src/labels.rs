@@ -69,6 +69,8 @@ impl error::Error for SetRefused {}
 
 /// The label of a slot's map, in an image that is only read.
 ///
+/// # Errors
+///
 /// Refused as [`check`](crate::check) is, then by 18, 23, 34, 35, 36.
 pub fn read_label(image: &[u8], block_size: BlockSize, slot: u32) -> Result<Label, Refused> {
     // SAFETY: the pointer and the length are those of one slice, which is only read; a slice's pointer is not null, also where it is empty.
@@ -83,6 +85,8 @@ pub(crate) fn label_read(read: ffi::card_label_read) -> Result<Label, Refused> {
 }
 
 /// The one date and style revision of the maps of a list of slots, in an image that is only read. The sheet is not compared, and a slot that is named twice is judged as one.
+///
+/// # Errors
 ///
 /// Refused by 38 where the list is empty, then as [`check`](crate::check) is; then slot by slot by 18, 23, 34, 35, 36, and by 37 for another date or another style revision
 /// than the first slot's.
@@ -100,13 +104,19 @@ pub(crate) fn judged(judged: ffi::card_judged) -> Result<Dated, SetRefused> {
 
 impl Card<'_> {
     /// The label of a slot's map: see [`read_label`].
+    ///
+    /// # Errors
+    ///
+    /// Refused as [`read_label`] is.
     pub fn read_label(&self, slot: u32) -> Result<Label, Refused> {
         read_label(self.image, self.block_size, slot)
     }
 
     /// Writes a label at the start of a slot's partition: 13 bytes, and no other byte changes.
     ///
-    /// Refused by 18, 23, 36.
+    /// # Errors
+    ///
+    /// Refused as [`check`](crate::check) is, then by 18, 23, 36.
     pub fn write_label(&mut self, slot: u32, label: Label) -> Result<(), Refused> {
         let (image, b) = (&mut *self.image, self.block_size.bytes());
         let Label { year, month, day, style, sheet } = label;
@@ -116,6 +126,10 @@ impl Card<'_> {
     }
 
     /// The one date and style revision of the maps of a list of slots: see [`judge`].
+    ///
+    /// # Errors
+    ///
+    /// Refused as [`judge`] is.
     pub fn judge(&self, slots: &[u32]) -> Result<Dated, SetRefused> {
         judge(self.image, self.block_size, slots)
     }

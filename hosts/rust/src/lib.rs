@@ -61,6 +61,7 @@ mod guid;
 mod labels;
 mod maps;
 mod pulled;
+mod read_only;
 mod record;
 mod refusal;
 #[cfg(test)]
@@ -75,6 +76,7 @@ pub use guid::{Guid, GuidError};
 pub use labels::{judge, read_label, Dated, Label, SetRefused};
 pub use maps::SlotMap;
 pub use pulled::{reader_copy, reader_get, reader_list, start_repair, tables_of, Staged, Store, Table};
+pub use read_only::{disk_guid, CardRef};
 pub use record::{Entry, Flags, Name, NameError, Record};
 pub use refusal::{Place, Refusal, Refused};
 pub use uefi::{uefi_header, uefi_list};

@@ -101,6 +101,7 @@ impl PartialEq<&str> for Name {
 
 /// Why a text cannot be a partition's name.
 #[derive(Clone, Copy, Debug, PartialEq, Eq)]
+#[non_exhaustive]
 pub enum NameError {
     /// The text has more than 36 UTF-16 units.
     TooLong {

@@ -6,6 +6,7 @@ macro_rules! refusals {
     ($($number:literal $name:ident: $meaning:literal,)*) => {
         /// Why a call was refused. A refused call changed no byte of the image.
         #[derive(Clone, Copy, Debug, PartialEq, Eq, Hash)]
+        #[non_exhaustive]
         pub enum Refusal {
             $(#[doc = concat!(stringify!($number), ": ", $meaning, ".")] $name,)*
             /// 22: a block that another slot has.
@@ -107,6 +108,7 @@ impl error::Error for Refusal {}
 
 /// Where the card check refused.
 #[derive(Clone, Copy, Debug, PartialEq, Eq, Hash)]
+#[non_exhaustive]
 pub enum Place {
     /// In the front table: its header, its array, or the entries.
     Front,

@@ -544,3 +544,27 @@ fn guids_read_and_print_in_the_usual_form() {
     assert_eq!("03020100-0504-0706-0809-0a0b0c0d0e-f".parse::<Guid>(), Err(GuidError));
     assert_eq!("030201000504-0706-0809-0a0b0c0d0e0f".parse::<Guid>(), Err(GuidError));
 }
+
+/// A card that is only read answers as the card that is lent to be changed.
+#[test]
+fn read_only_card() {
+    use card::CardRef;
+    let disk = "5a3f1c20-11e7-4b6d-9c04-0242ac110000".parse().unwrap();
+    let mut image = vec![0; 80 * 512];
+    let mut card = Card::lay(&mut image, BlockSize::B512, disk).unwrap();
+    card.put(3, &Record::new(Guid::BASIC_DATA, disk, 40, 41, "map").unwrap()).unwrap();
+    card.write_payload(3, 5, b"north").unwrap();
+    let read = card.read_only();
+    let (mut bytes, mut same) = ([0; 5], [0; 5]);
+    assert_eq!((read.read_payload(3, 5, &mut bytes), card.read_payload(3, 5, &mut same)), (Ok(5), Ok(5)));
+    assert_eq!((&bytes, bytes), (b"north", same));
+    assert_eq!((read.get(3), read.get(4), read.get(129)), (card.get(3), card.get(4), card.get(129)));
+    assert!(read.list().unwrap().eq(card.list().unwrap()) && read.list().unwrap().len() == 1);
+    assert_eq!((read.free_ranges(), read.free_ranges().unwrap().len()), (card.free_runs(), 2));
+    assert_eq!((read.disk_guid(), card.disk_guid()), (Ok(disk), Ok(disk)));
+    assert_eq!((read.slot_map(), read.read_label(3), read.judge(&[3])), (card.slot_map(), card.read_label(3), card.judge(&[3])));
+    assert_eq!((read.bytes().len(), read.block_size()), (80 * 512, BlockSize::B512));
+    image[512] ^= 1;
+    assert_eq!(CardRef::open(&image, BlockSize::B512).unwrap_err().number(), 4);
+    assert_eq!(card::disk_guid(&image, BlockSize::B512).unwrap_err().number(), 4);
+}
