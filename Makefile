@@ -9,7 +9,7 @@ LOG ?= target/gate.log
 # The scripts take these from the environment.
 export CC CFLAGS LDFLAGS PREFIX DESTDIR
 
-.PHONY: help tour demo sums test gate-times deps outside programs bench bench-list lib card card-test install uninstall install-test deb dist package-test boundary example lister-test python rust documents interop differential differential-slips scripts-test boundary-valgrind rust-outside race model writers cuts cuts-quick firmware firmware-quick edits clean
+.PHONY: help tour versions demo sums test gate-times deps outside programs bench bench-list lib card card-test install uninstall install-test deb dist package-test boundary example lister-test python rust documents interop differential differential-slips scripts-test boundary-valgrind rust-outside race model writers cuts cuts-quick firmware firmware-quick edits clean
 
 # Two runs of rt in one repository write the same files, so with -j, too, one target is made after the other.
 .NOTPARALLEL:
@@ -175,6 +175,10 @@ differential:
 # Says how soon that run catches slips put into the port's answers.
 differential-slips:
 	@tests/differential/run.sh slips
+
+# Compares the version of the Makefile with every other place that names it.
+versions:
+	tests/versions.sh
 
 # Reads the files and lines that docs/TOUR.md names, and the picture of the crates. `python3 tests/tour.py --mend` puts both right.
 tour:

@@ -38,6 +38,9 @@ extern "C" {
 #define CARD_SIZE(type, size) CARD_ASSERT(sizeof(type) == (size), "the size of " #type)
 #define CARD_AT(type, field, place) CARD_ASSERT(offsetof(type, field) == (place), "the place of " #field " in " #type)
 
+/* The version of the library that this header belongs to. */
+#define CARD_VERSION "0.1.0"
+
 /* The bytes of stack that a call needs at most. Of these the check sum's table is 16,384, in every call that sums anything but one header of 92 bytes; all else was at
    most 2,632 when it was last measured. tests/c/stack.c measures every call, and makes it on a thread of 24 KiB. */
 #define CARD_STACK 20480

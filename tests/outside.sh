@@ -88,6 +88,7 @@ fi
 
 run edits "each changed function of an edit"
 run programs "the programs that are run below"
+run versions "one version in all places"
 run tour "the tour's lines and the picture of the crates" python3
 run example "the stored cards are the independent maker's" python3 cmp
 run lister-test "the lister and free_ground" x86-64 python3

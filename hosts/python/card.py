@@ -122,6 +122,7 @@ import struct
 import uuid
 from dataclasses import dataclass, field, replace
 
+__version__ = "0.1.0"
 BASIC_DATA = uuid.UUID("ebd0a0a2-b9e5-4433-87c0-68b6b72699c7")
 RUNS = 129  # how many runs of free blocks a card has at most
 FRESH = 0  # the sum of nothing, from which crc32_next starts a new sum

@@ -70,6 +70,9 @@ mod repository;
 mod uefi;
 mod windows;
 
+/// The version of this crate, which is the library's.
+pub const VERSION: &str = env!("CARGO_PKG_VERSION");
+
 pub use calls::{check, crc32_next, free_runs, get, list, payload_place, read_payload, BlockSize, Card, Listing, FRESH, SLOTS};
 pub use files::{Device, FileCard, FileError, FileStaged, SyncBy};
 pub use guid::{Guid, GuidError};
