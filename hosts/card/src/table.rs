@@ -138,13 +138,18 @@ fn drops_no_slot(medium: &Medium, shown: &str, block_size: BlockSize) -> Outcome
     }
 }
 
+/// The system's number for a device that is in use.
+const BUSY: i32 = 16;
+
 /// A device's table has changed, so the kernel is asked to look again.
 pub fn tell_kernel(medium: &Medium, out: &mut Out) {
     if !medium.is_device() || medium.is_dry() {
         return;
     }
-    if let Err(failure) = crate::system::read_table_again(medium.file()) {
-        out.line(format!("the kernel still has the old table: {}", system_words(&failure)));
+    // A device of which the kernel reads no table, as a plain loop device, is no matter; one that is in use is.
+    match crate::system::read_table_again(medium.file()) {
+        Err(failure) if failure.raw_os_error() == Some(BUSY) => out.line(format!("the kernel still has the old table: {}", system_words(&failure))),
+        _ => {}
     }
 }
 

@@ -59,13 +59,14 @@ impl Windows {
         }
     }
 
-    /// The places of the blocks that other windows of the same card have otherwise: those of the tail ascending, then those of the head descending. So of each table the
-    /// array comes before its header, and the back table before the front one, as in the stages of an update.
+    /// The places of the blocks that other windows of the same card have otherwise: block 0, those of the tail ascending, then those of the front table descending. So of each table
+    /// the array comes before its header, and the back table before the front one, as in the stages of an update; and a card that can be read has its MBR.
     pub fn changes_to(&self, other: &Windows) -> Vec<u64> {
         let b = self.block_size.bytes();
         let changed = |place: &u64| self.block(*place) != other.block(*place);
-        let places = |window: &[u8], from: u64| (0..window.len() as u64 / b).map(move |block| from + block * b);
-        places(&self.tail, self.tail_place()).chain(places(&self.head, 0).rev()).filter(changed).collect()
+        let back = (0..self.tail.len() as u64 / b).map(|block| self.tail_place() + block * b);
+        let front = (1..self.head.len() as u64 / b).rev().map(|block| block * b);
+        std::iter::once(0).chain(back).chain(front).filter(changed).collect()
     }
 
     pub fn lay(&mut self, guid: Guid) -> Result<(), Refused> {

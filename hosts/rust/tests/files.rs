@@ -301,9 +301,9 @@ fn only_the_windows_and_the_payload_are_touched() {
         let windows = [Read(0, head), Read((blocks - array - 1) * b, tail)];
         let block = |block: u64| Wrote(block * b, b as usize);
 
-        // Lay writes what it changes: here both tables and block 0. The back table is first, and headers come after their arrays.
+        // Lay writes what it changes: here block 0 and both tables. Block 0 is first, so that a card that can be read has its MBR; then the back table, and headers come after their arrays.
         FileCard::lay(&mut file, size, DISK).unwrap();
-        let laid = (blocks - array - 1..blocks).chain((0..array + 2).rev()).map(block);
+        let laid = [0].into_iter().chain(blocks - array - 1..blocks).chain((1..array + 2).rev()).map(block);
         assert_eq!(file.taken(), windows.into_iter().chain(laid).chain([Synced]).collect::<Vec<_>>());
         // Where the arrays are zeros already, block 0 and the two headers.
         file.inner.get_mut()[b as usize] = 0;
