@@ -1184,7 +1184,7 @@ class Card:
             return _take(call(*windows, *arguments))
 
     def _change(self, call):
-        """Makes a change in the windows, and stores the blocks that it changed: of each table the array before its header, and the back table first, as the stages do."""
+        """Makes a change in the windows, and stores the blocks that it changed: block 0, so that a card that can be read has its MBR, the back table, the front one; of each the array before its header."""
         self._to_write()
         before = bytes(self._head), bytes(self._tail)
         with self._windows() as windows:
@@ -1192,7 +1192,7 @@ class Card:
         b, tail = self.block_size, self.blocks * self.block_size - len(self._tail)
         head = [place for place in range(0, len(self._head), b) if self._head[place : place + b] != before[0][place : place + b]]
         back = [tail + place for place in range(0, len(self._tail), b) if self._tail[place : place + b] != before[1][place : place + b]]
-        self._store(*back, *reversed(head))
+        self._store(*(place for place in head if place == 0), *back, *(place for place in reversed(head) if place != 0))
 
     def _staged(self, stop_after, start, go_on):
         self._to_write()

@@ -160,7 +160,7 @@ class Files(unittest.TestCase):
 
                 does(*windows)
                 file.lay(DISK)
-                does(*(("wrote", block * size, size) for block in (*range(blocks - entries - 1, blocks), *range(entries + 1, -1, -1))), synced)
+                does(*(("wrote", block * size, size) for block in (0, *range(blocks - entries - 1, blocks), *range(entries + 1, 0, -1))), synced)
                 file.lay(uuid.UUID(int=1))
                 does(four[1], four[3], synced)
                 file.put(33, map_)
