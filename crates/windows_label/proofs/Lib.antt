@@ -1,2 +1,3 @@
 -- The laws of labels that are handed in.
 pub mod Ways
+pub mod Theorems

@@ -2,18 +2,19 @@
 -- No contract cites this file. Assumes nothing.
 use mathlib.Core.Path.{_≡_, sym, ap, _∙_}
 use mathlib.Core.Bool.{true, false}
-use mathlib.Core.List.{List, _∷_}
-use Prim.Native.Nat.{ℕ, suc, _+_, _*_, _/_, _%_, _≤_, _<_}
+use mathlib.Core.List.{List, [], _∷_}
+use Prim.Native.Nat.{ℕ, zero, suc, _+_, _*_, _-_, _/_, _%_, _≤_, _<_}
 use native.Mathlib.Omega.{arith}
 use borrow.Author.Tests.{eqb-true, eqb-false, eq-eqb, ne-eqb}
 use lib.Dec.{eqb}
-use lib.ListN.{length, drop, getD, drop-of-length-le}
+use lib.ListN.{length, take, drop, getD, drop-of-length-le}
 use lib.Seq.{drop-cons}
 use Rattle.units.specs.declared.BytePlace.{BytePlace}
 use Rattle.units.specs.declared.why.Why.{Why}
 use Rattle.units.specs.Answer.{Answer, accepted, refused, plain, andThen}
 use Rattle.units.specs.Bytes.{part}
 use Rattle.units.specs.Places.{goodSize}
+use Rattle.units.proofs.Lists.{lent-part}
 use Rattle.tables.specs.Check.{checkAnswer}
 use Rattle.tables.proofs.Orders.{by-test}
 use Rattle.card.specs.Calls.{placeAnswer}
@@ -24,7 +25,7 @@ use Rattle.label.specs.declared.inner.Agreed.the-variants as agreed
 use Rattle.label.specs.Labels.{labelIn}
 use Rattle.label.specs.Judging.{SetAnswer, refusedAt, stepAnswer, atEnd, judgeFrom}
 use Rattle.windows.specs.Windows.{windowAnswer}
-use Rattle.windows_label.specs.Handed.{handedLabel, handedFrom, handedSet}
+use Rattle.windows_label.specs.Handed.{handedLabel, firstPlace, handedFrom, handedSet}
 
 -- ---- so many slots, 13 bytes each
 
@@ -50,26 +51,56 @@ module _ (B N : ℕ) (head tail : List ℕ) (s : ℕ) (ls : List ℕ) {a : Answe
   pub handed-read : {p : BytePlace} {r : Answer Label} → a ≡ accepted p → r ≡ labelIn ls → r ≡ handedLabel B N head tail s ls
   handed-read q h = h ∙ sym (answered ∙ ap (λ (x : Answer BytePlace). andThen x (λ (p : BytePlace). labelIn ls)) q)
 
+-- ---- the first place of a slot
+
+module _ (ss : List ℕ) (s i : ℕ) where
+  -- the slot at place i is the one: nothing of what is left stands before it
+  pub first-here : i < length ss → getD ss i 0 ≡ s → i + firstPlace (drop i ss) s ≡ i
+  unfolding firstPlace
+  first-here h e = rw (drop-cons ss i 0 h, eq-eqb (getD ss i 0) s e) (omega arith)
+
+  -- it is not: one place further
+  pub first-later : i < length ss → (getD ss i 0 ≡ s → ⊥) → i + 1 + firstPlace (drop (i + 1) ss) s ≡ i + firstPlace (drop i ss) s
+  unfolding firstPlace
+  first-later h d = let q : i + 1 ≡ suc i = omega arith in rw (drop-cons ss i 0 h, ne-eqb (getD ss i 0) s d, q) (omega arith)
+
+  -- the list is at its end
+  pub first-none : length ss ≤ i → i + firstPlace (drop i ss) s ≡ i
+  unfolding firstPlace
+  first-none h = rw (drop-of-length-le ss h) (omega arith)
+
+-- the slot at place i has its first place there or before
+pub first-within : (ss : List ℕ) (s i : ℕ) → i < length ss → getD ss i 0 ≡ s → firstPlace ss s ≤ i
+unfolding firstPlace
+first-within [] s i h e = omega (arith, h)
+first-within (t ∷ ts) s zero h e = rw (eq-eqb t s e) (omega arith)
+first-within (t ∷ ts) s (suc i) h e = by-test (eqb t s) (λ q. rw q (omega arith)) (λ q. rw q (omega (arith, first-within ts s i (omega (arith, h)) e)))
+
+-- the label in its 13 bytes, which the code lends from the place that it found
+module _ (B N : ℕ) (head tail : List ℕ) (s : ℕ) (ls : List ℕ) (n : ℕ) where
+  pub handed-at : {m : ℕ} {r : Answer Label} → r ≡ handedLabel B N head tail s (take (13 * n + 13 - 13 * n) (drop (13 * n) ls)) → n ≡ m → r ≡ handedLabel B N head tail s (part ls (13 * m) 13)
+  handed-at h e = h ∙ ap (λ (l : List ℕ). handedLabel B N head tail s l) (lent-part ls (13 * n) 13 ∙ ap (λ (k : ℕ). part ls (13 * k) 13) e)
+
 -- ---- the list
 
-module _ (B N : ℕ) (head tail ls ss : List ℕ) (i : ℕ) where
-  handed-step : i < length ss → handedFrom B N head tail ls i (drop i ss) ≡ record { slot = getD ss i 0; label = handedLabel B N head tail (getD ss i 0) (part ls (13 * i) 13) } ∷ handedFrom B N head tail ls (i + 1) (drop (i + 1) ss)
+module _ (B N : ℕ) (head tail all ls ss : List ℕ) (i : ℕ) where
+  handed-step : i < length ss → handedFrom B N head tail all ls (drop i ss) ≡ record { slot = getD ss i 0; label = handedLabel B N head tail (getD ss i 0) (part ls (13 * firstPlace all (getD ss i 0)) 13) } ∷ handedFrom B N head tail all ls (drop (i + 1) ss)
   unfolding handedFrom
   handed-step h = let e : i + 1 ≡ suc i = omega arith in rw (drop-cons ss i 0 h, e)
 
   -- a slot that agrees: the rest of the list, held against its first date
-  pub judge-next : i < length ss → (a : Agreed) {d : Dated} → stepAnswer a (handedLabel B N head tail (getD ss i 0) (part ls (13 * i) 13)) ≡ accepted d
-      → judgeFrom (agreed.On d) (handedFrom B N head tail ls (i + 1) (drop (i + 1) ss)) ≡ judgeFrom a (handedFrom B N head tail ls i (drop i ss))
+  pub judge-next : i < length ss → (a : Agreed) {d : Dated} → stepAnswer a (handedLabel B N head tail (getD ss i 0) (part ls (13 * firstPlace all (getD ss i 0)) 13)) ≡ accepted d
+      → judgeFrom (agreed.On d) (handedFrom B N head tail all ls (drop (i + 1) ss)) ≡ judgeFrom a (handedFrom B N head tail all ls (drop i ss))
   unfolding judgeFrom
   judge-next h a e = rw (handed-step h, e)
 
   -- one that is refused: the end
-  pub judge-stop : i < length ss → (a : Agreed) {w : Why} → stepAnswer a (handedLabel B N head tail (getD ss i 0) (part ls (13 * i) 13)) ≡ refused w
-      → refusedAt w (getD ss i 0) ≡ judgeFrom a (handedFrom B N head tail ls i (drop i ss))
+  pub judge-stop : i < length ss → (a : Agreed) {w : Why} → stepAnswer a (handedLabel B N head tail (getD ss i 0) (part ls (13 * firstPlace all (getD ss i 0)) 13)) ≡ refused w
+      → refusedAt w (getD ss i 0) ≡ judgeFrom a (handedFrom B N head tail all ls (drop i ss))
   unfolding judgeFrom
   judge-stop h a e = rw (handed-step h, e)
 
-  pub judge-end : length ss ≤ i → (a : Agreed) → atEnd a ≡ judgeFrom a (handedFrom B N head tail ls i (drop i ss))
+  pub judge-end : length ss ≤ i → (a : Agreed) → atEnd a ≡ judgeFrom a (handedFrom B N head tail all ls (drop i ss))
   unfolding judgeFrom handedFrom
   judge-end h a = rw (drop-of-length-le ss h)
 
@@ -95,6 +126,6 @@ module _ (B N : ℕ) (head tail ss ls : List ℕ) where
         unfolding handedSet
         set-2 h = rw (g, e, sym q, r, h)
 
-        pub set-judged : eqb (length ls) (13 * length ss) ≡ true → {x : SetAnswer} → x ≡ judgeFrom agreed.Nothing (handedFrom B N head tail ls 0 ss) → x ≡ handedSet B N head tail ss ls
+        pub set-judged : eqb (length ls) (13 * length ss) ≡ true → {x : SetAnswer} → x ≡ judgeFrom agreed.Nothing (handedFrom B N head tail ss ls ss) → x ≡ handedSet B N head tail ss ls
         unfolding handedSet
         set-judged h p = rw (g, e, sym q, r, h) p

@@ -33,7 +33,7 @@ pub fn read_label<'a>(
 }
 
 // Whether all slots of a list have one date and one style revision, by labels that are handed in, 13 bytes a slot in the list's order: 1, 38 an empty list, 3, 8, 10, 32, the card check's, 2 not
-// 13 bytes a slot; then slot by slot 18, 23, 34, 35, 36, 37. A slot that is named twice is to be handed in alike: its two labels are judged as two.
+// 13 bytes a slot; then slot by slot 18, 23, 34, 35, 36, 37. A slot that is named twice is judged as one, by the label at its first place.
 pub fn judge<'a>(
     head: &'a [u8],
     tail: &'a [u8],
