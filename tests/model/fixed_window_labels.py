@@ -66,7 +66,7 @@ def judge_cases(calls):
 
 
 def repeated_cases(calls):
-    """A repeated slot is handed in at each of its places, and each of its labels is judged: another date or style revision is 37 at the later place, a bad label 34 to 36, another sheet alone is accepted."""
+    """A repeated slot is judged as one, by the label at its first place; the bytes at its later places are not looked at."""
     good, june, bad = MAY_BYTES, raw(month=6), filled(13)
     for b, blocks in ROOMY:
         windows = windows_of(b, blocks, some_slots(b, blocks))
@@ -74,12 +74,12 @@ def repeated_cases(calls):
             ((1, 1), good + good, DATE),
             ((1, 1), good + raw(sheet=5), DATE),
             ((1, 64, 1), good + raw(sheet=5) + good, DATE),
-            ((1, 1), good + june, (37, 1)),
-            ((1, 1, 64), good + bad + good, (34, 1)),
-            ((1, 64, 1, 64), good + raw(sheet=5) + bad + june, (34, 1)),
+            ((1, 1), good + june, DATE),
+            ((1, 1, 64), good + bad + good, DATE),
+            ((1, 64, 1, 64), good + raw(sheet=5) + bad + june, DATE),
             ((1, 1), bad + good, (34, 1)),
             ((1, 64, 1), good + june + june, (37, 64)),
-            ((1, 1, 64), good + june + june, (37, 1)),
+            ((1, 1, 64), good + june + june, (37, 64)),
             ((1, 1, 0), good + good + bad, (18, 0)),
         ):
             due = (0, due) if due == DATE else (due[0], (due[1], 0, 0, 0, 0))

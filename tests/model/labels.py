@@ -87,12 +87,12 @@ def need_list(listed, b):
 def judged(listed, label_of):
     """Document 02, 13/13: "for each slot 18, 23, 34 .., 35 .., 36 .., 37 TwoDates", slot by slot in the list's order. A refused set gives "the first slot
     in the list's order that fails or differs from the first", as the list has it; an accepted one gives its date and revision. The sheet number is
-    not compared. "A repeated slot is judged as one": an image shows the same label at each of its places.
+    not compared. "A repeated slot is judged as one": it has one label, wherever the list names it.
     """
     first = None
-    for place, slot in enumerate(listed):
+    for slot in listed:
         try:
-            label = label_of(place, slot)
+            label = label_of(slot)
         except Refused as refusal:
             raise Refused(refusal.number, refusal.step, values=(slot, *NOTHING)) from None
         first = first or label
@@ -107,7 +107,7 @@ def card_judge(img, b, slots):
     listed = slots_in(slots)
     need_list(listed, b)
     held = card.check(img, b)
-    return judged(listed, lambda place, slot: label_in(img, b, held, slot))
+    return judged(listed, lambda slot: label_in(img, b, held, slot))
 
 
 def checked(head, tail, blocks, b):
@@ -130,15 +130,16 @@ def card_window_read_label(head, tail, blocks, b, slot, raw):
 @call(zero=(0, *NOTHING), lent=(0, 1, 4, 5))
 def card_window_judge(head, tail, blocks, b, slots, raw):
     """A screen set whose labels are handed in, 13 bytes for each place of the list: 1, 38, the windows' numbers, the card check's, 2 if there are not
-    that many bytes, then place by place. A slot that is named twice is handed in twice, and two labels of it that differ are two dates."""
+    that many bytes, then place by place. "A repeated slot is judged as one": its label is the one at its first place, and the bytes at its later places
+    are not looked at."""
     listed = slots_in(slots)
     need_list(listed, b)
     held = checked(head, tail, blocks, b)
     if len(raw) != SIZE * len(listed):
         raise Refused(2)
 
-    def label_of(place, slot):
+    def label_of(slot):
         first_block(held, slot)
-        return label_from(raw[SIZE * place :][:SIZE])
+        return label_from(raw[SIZE * listed.index(slot) :][:SIZE])
 
     return judged(listed, label_of)
