@@ -1628,8 +1628,14 @@ static void labels_by_windows(uint64_t b) {
     NO_SET(card_window_judge(head, 0, tail, 0, many, 513, slots, 0, labels, 0), CARD_BAD_BLOCK_SIZE, 0);
     NO_SET(card_window_judge(head, 0, tail, 0, many, b, slots, 0, labels, 0), CARD_EMPTY_LIST, 0);
     NO_SET(card_window_judge(head, 0, tail, 0, many, b, slots, 1, labels, 0), CARD_WINDOW_LENGTH, 0);
+    /* Slot 7 is named twice: the label at its first place counts. */
     labels[26 + 8] = 15;
-    NO_SET(card_window_judge(WINDOWS, slots, 3, labels, 39), CARD_TWO_DATES, 7);
+    j = card_window_judge(WINDOWS, slots, 3, labels, 39);
+    SAME(j.number, 0);
+    SAME(j.day, 14);
+    SAME(j.style, 3);
+    labels[13 + 8] = 15;
+    NO_SET(card_window_judge(WINDOWS, slots, 3, labels, 39), CARD_TWO_DATES, 128);
     labels[13] = 'f';
     NO_SET(card_window_judge(WINDOWS, slots, 3, labels, 39), CARD_BAD_MARK, 128);
     SAME(card_write_label(WHOLE, 128, later).number, 0);
