@@ -572,7 +572,8 @@ card_judged card_judge(const uint8_t *img, size_t img_len, uint64_t b, const uin
    One label: the check's numbers on windows, then 18, 23, 2 where fewer than 13 bytes are lent, 34, 35, 36. Bytes after the 13th are not looked at. */
 card_label_read card_window_read_label(const uint8_t *head, size_t head_len, const uint8_t *tail, size_t tail_len, uint64_t blocks, uint64_t b, uint32_t slot, const uint8_t *label, size_t label_len);
 
-/* A set, with 13 bytes a slot in the list's order. Hand in a slot that is named twice with the same bytes twice: each of its labels is judged.
+/* A set, with 13 bytes a slot in the list's order. A slot that is named twice is judged as one, by the label at its first place; its later places have their 13 bytes too,
+   which are not looked at.
    1, 38 where slots_len is 0, the check's other numbers on windows, 2 where labels_len is not 13 times slots_len; then slot by slot 18, 23, 34, 35, 36, 37. */
 card_judged card_window_judge(const uint8_t *head, size_t head_len, const uint8_t *tail, size_t tail_len, uint64_t blocks, uint64_t b, const uint32_t *slots, size_t slots_len, const uint8_t *labels, size_t labels_len);
 
