@@ -1,0 +1,110 @@
+"""grow: a card in a file that became longer; cuts of grow and of lay after each of their writes."""
+import gpt
+import straced
+from bench import like
+from check import damaged
+
+ENTRIES = {1: gpt.Entry(34, 37, "map", gpt.guid(1)), 6: gpt.Entry(60, 94, "roads", gpt.guid(6)), 128: gpt.Entry(40, 41, "end", gpt.guid(128))}
+
+
+def listed(b, size=512):
+    return gpt.listed(b.run("list", "a.img", "-b", size).out.splitlines())
+
+
+def grown(b):
+    for size, new, after in ((512, 256, 0), (512, 129, 0), (512, 4096, 100), (4096, 256, 0), (4096, 133, 4095)):
+        image = gpt.card(128, size, ENTRIES, fill=0xA5) + bytes((new - 128) * size + after)
+        b.store("a.img", image)
+        b.says(("grow", "a.img", "-b", size), f"card grown from 128 to {new} blocks of {size} bytes ({gpt.words(new * size)}): 3 slots stay as they were\n")
+        came, first = b.bytes("a.img"), gpt.usable(128, size)
+        for place, data in gpt.tables(new, size, ENTRIES).items():
+            b.true(f"grow to {new} blocks of {size}: the bytes at {place}", came[place:place + len(data)] == data)
+        b.true(f"grow to {new} blocks of {size}: the usable blocks of before keep their bytes", came[first[0] * size:(first[1] + 1) * size] == image[first[0] * size:(first[1] + 1) * size])
+        b.equal("and list", listed(b, size), [gpt.row(s, e, size) for s, e in ENTRIES.items()])
+        b.says(("grow", "a.img", "-b", size), f"nothing to grow: the card has all {new} blocks of the file\n")
+        b.true("nothing to grow: the bytes", b.bytes("a.img") == came)
+        b.equal("a put in the new ground", b.run("put", "a.img", "2", "--first", new - 16384 // size - 2, "--last", new - 16384 // size - 2, "-b", size).status, 0 if new > 129 else None)
+
+
+def refused(b):
+    b.store("a.img", gpt.card(128, entries=ENTRIES))
+    b.says(("grow", "a.img"), "nothing to grow: the card has all 128 blocks of the file\n")
+    longer = bytes(64 * 512)
+    for what, image in (("zeros", bytes(65536)), ("random bytes", b.rng.randbytes(65536)), ("a damaged front", damaged(gpt.card(128, entries=ENTRIES), 512, True, 5) + longer),
+                        ("a damaged array", damaged(gpt.card(128, entries=ENTRIES), 512, True, 6) + longer), ("a card that was cut", gpt.card(128, entries=ENTRIES)[:100 * 512])):
+        b.store("a.img", image)
+        b.refuses(("grow", "a.img"), like("card: a.img{..} Nothing was changed.{..}\n"))
+
+
+def cut_grow(b):
+    """Cut after each of its writes, the grow is begun again and ends with every slot."""
+    for size in (512, 4096):
+        image = gpt.card(128, size, ENTRIES, fill=0xA5) + bytes(72 * size)
+        b.store("a.img", image)
+        found, done = straced.events(b, ("grow", "a.img", "-b", size), "a.img")
+        steps = list(straced.prefixes(image, found))
+        b.true("grow under strace: the writes seen are the writes done", done.status == 0 and steps[-1] == b.bytes("a.img") and len(steps) > 2, f"{done} {len(steps)}")
+        for count, step in enumerate(steps):
+            b.store("a.img", step)
+            shown = b.run("show", "a.img", "-b", size)
+            rows = gpt.listed(shown.out.splitlines()[1:]) if shown.status == 0 else None
+            b.true(f"grow at {size}, cut after {count} writes: show has all slots, or says the card has grown", rows == [gpt.row(s, e, size) for s, e in ENTRIES.items()] if shown.status == 0 else shown.status == 1, shown)
+            b.equal(f"grow at {size}, cut after {count} writes, grown again: status", b.run("grow", "a.img", "-b", size).status, 0)
+            b.run("repair", "a.img", "-b", size)
+            b.equal(f"grow at {size}, cut after {count} writes, grown again: check", b.run("check", "a.img", "-b", size).status, 0)
+            b.equal(f"grow at {size}, cut after {count} writes, grown again: list", listed(b, size), [gpt.row(s, e, size) for s, e in ENTRIES.items()])
+
+
+def shown_slots(done):
+    """What the reader shows: the list, or nothing."""
+    return gpt.listed(done.out.splitlines()[1:]) if done.status == 0 else None
+
+
+def cut_lay(b):
+    """A lay that is cut shows the old table or the new one, and each block is stored before the next is written."""
+    old_rows = [gpt.row(s, e, 512) for s, e in ENTRIES.items()]
+    for what, image, old in (("over a card", gpt.card(128, entries=ENTRIES), old_rows), ("over zeros", bytes(65536), None), ("over random bytes", b.rng.randbytes(65536), None)):
+        b.store("a.img", image)
+        found, done = straced.events(b, ("lay", "a.img", "--force", "--guid", gpt.guid(0x99)), "a.img")
+        steps = list(straced.prefixes(image, found))
+        b.true(f"lay {what} under strace: the writes seen are the writes done", done.status == 0 and steps[-1] == b.bytes("a.img"), f"{done} {len(steps)}")
+        kinds = [e.kind for e in found if e.kind in ("write", "sync") and (e.kind == "sync" or e.length)]
+        pairs = [kinds[i + 1:i + 2] for i, k in enumerate(kinds) if k == "write"]
+        b.true(f"lay {what}: each write is stored before the next", pairs and all(p == ["sync"] for p in pairs), kinds)
+        blocks = [e for e in found if e.kind == "write" and (e.place % 512 or e.length != 512)]
+        b.equal(f"lay {what}: a block at a time", blocks, [])
+        turned = False
+        for count, step in enumerate(steps):
+            b.store("a.img", step)
+            rows = shown_slots(b.run("show", "a.img"))
+            turned = turned or rows == []
+            b.equal(f"lay {what}, cut after {count} writes: the new table, or the old one and never again", rows, [] if turned else old)
+        b.true(f"lay {what}: it ends with the new table", turned)
+
+
+def order(b):
+    """put and clear: four blocks, each stored before the next is written, the back table first."""
+    for size in (512, 4096):
+        for words, slot in ((("put", "a.img", "40", "--first", "42", "--last", "43", "--guid", gpt.guid(40)), 40), (("clear", "a.img", "6"), 6)):
+            b.store("a.img", gpt.card(128, size, ENTRIES))
+            found, _ = straced.events(b, (*words, "-b", size), "a.img")
+            came = [(e.kind, e.place if e.kind == "write" else 0) for e in found if e.kind in ("write", "sync")]
+            (front, front_array), (back, back_array) = (gpt.places(128 * size, size, f) for f in (True, False))
+            block = 128 * (slot - 1) // size * size
+            want = [pair for place in (back_array + block, back, front_array + block, front) for pair in (("write", place), ("sync", 0))]
+            b.equal(f"{words[0]} at {size}: the order of its stores", came[:8], want)
+            b.true(f"{words[0]} at {size}: no other writes", all(k == "sync" for k, _ in came[8:]), came)
+            b.true(f"{words[0]} at {size}: whole blocks", all(e.length == size for e in found if e.kind == "write"), found)
+
+
+def run(b):
+    grown(b)
+    refused(b)
+
+
+def run_cuts(b):
+    if straced.missing():
+        return b.not_run("cuts of grow and lay after each write, and the order of put's stores", straced.missing())
+    cut_grow(b)
+    cut_lay(b)
+    order(b)
