@@ -66,7 +66,7 @@ def changes(b):
     whole = planned(bytes(4 << 20))
     other = gpt.over(whole, 512, {**ENTRIES, 9: gpt.Entry(5000, 5002, "other", gpt.guid(9))})
     for what, image, slot, verbs in (("a byte of a map", gpt.stored(whole, 4096 * 512 + 100, b"??"), 2, "written, verified"), ("a date", gpt.stored(whole, 5000 * 512, gpt.label(2026, 4, 30, 3, 13)), 9, "labelled, verified"),
-                                     ("a name", other, 9, like("slot 9: put{..}")), ("a byte behind the label", gpt.stored(whole, 2048 * 512 + 13, b"?"), 1, "written, verified")):
+                                     ("a name", other, 9, like("slot 9: put{..}")), ("a byte behind the label", gpt.stored(whole, 2048 * 512 + 13, b"?"), 1, like("slot 1: written{..}, verified"))):
         b.store("a.img", image)
         done = b.run("apply", "plans/plan", "a.img")
         slots, last = slot_lines(done, "a.img")

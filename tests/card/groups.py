@@ -1,14 +1,18 @@
 """The groups by their names, in the order in which they run."""
 import apply
+import big
 import check
 import dry
+import failing
 import grow
 import labels
 import lay
 import listing
 import payload
 import put
+import report
 import stages
+import uefi
 import usage
 
 ALL = {
@@ -31,4 +35,8 @@ ALL = {
     "grow": grow.run,
     "cuts": grow.run_cuts,
     "apply": apply.run,
+    "uefi": uefi.run,
+    "report": report.run,
+    "big": big.run,
+    "failing": failing.run,
 }

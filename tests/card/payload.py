@@ -1,5 +1,6 @@
 """write and read: the bytes of a partition, from files and standard input, from any place, and what passes its end."""
 import os
+import re
 import subprocess
 
 import gpt
@@ -67,6 +68,27 @@ def reads(b):
         b.true("read changes nothing", b.bytes("a.img") == image)
 
 
+def piped(b, at, data):
+    """A pipe's length cannot be asked: what is too long is refused all the same, and the bytes that it names are in order."""
+    done = b.refuses(("write", "a.img", "2", "-", "--at", at), like("card: slot 2 not written{..}: bytes {n} to {n} pass its end: the partition has 512 bytes. Nothing was changed. [24]\n"), stdin=data)
+    ends = [int(n) for n in re.findall(r"bytes (\d+) to (\d+)", done.err)[0]] if "bytes " in done.err else [1, 0]
+    b.true(f"write of {len(data)} bytes of a pipe at {at}: the bytes that it names", ends[0] <= ends[1] and ends[1] >= 512, done.err)
+
+
+def long_pipe(b):
+    """A pipe that is longer than the partition, and than what is read at once: what was written is said."""
+    entries = {1: gpt.Entry(2048, 6143, "map", gpt.guid(1)), 2: gpt.Entry(6144, 6150, "next", gpt.guid(2))}
+    image, data = gpt.card(8192, entries=entries, fill=0xA5), b.rng.randbytes(3 << 20)
+    b.store("a.img", image)
+    done = b.run("write", "a.img", "1", "-", stdin=data)
+    b.equal("write of a pipe of 3 MiB into 2 MiB: status", done.status, 1)
+    b.equal("write of a pipe of 3 MiB into 2 MiB: words", done.err, like("card: slot 1 not written{..} pass its end: the partition has 2097152 bytes. {..} [24]\n"))
+    came = b.bytes("a.img")
+    changed = next((n for n in range(2 << 20, -1, -4096) if came == gpt.stored(image, 2048 * 512, data[:n])), None)
+    said = re.search(r"(\d+) bytes from place 0 on were written", done.err)
+    b.equal("write of a pipe of 3 MiB into 2 MiB: the bytes written are those that it names", changed, int(said[1]) if said else 0)
+
+
 def refusals(b):
     image = gpt.card(128, entries=ENTRIES, fill=0xA5)
     b.store("a.img", image)
@@ -76,7 +98,7 @@ def refusals(b):
         b.refuses(("write", "a.img", "2", "src", "--at", at), f"card: slot 2 not written: {why}. Nothing was changed. [24]")
         with open(b.path("src"), "rb") as f:
             b.refuses(("write", "a.img", "2", "-", "--at", at), f"card: slot 2 not written: {why}. Nothing was changed. [24]", stdin=f)
-        b.refuses(("write", "a.img", "2", "-", "--at", at), like("card: slot 2 not written: bytes {..} pass its end: the partition has 512 bytes. Nothing was changed. [24]\n"), stdin=b"x" * length)
+        piped(b, at, b"x" * length)
         b.refuses(("read", "a.img", "2", "--at", at, "--length", length), f"card: slot 2 not read: {why}. [24]")
     b.refuses(("read", "a.img", "2", "--at", "513"), like("card: slot 2 not read: {..}the partition has 512 bytes. [24]\n"))
     b.refuses(("read", "a.img", "2", "--at", str(2**64 - 1), "--length", "10"), like("card: {..}\n"), None)
@@ -92,5 +114,6 @@ def refusals(b):
 def run(b):
     writes(b)
     long_source(b)
+    long_pipe(b)
     reads(b)
     refusals(b)
