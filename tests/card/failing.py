@@ -1,5 +1,6 @@
 """Input and output that fails: full disks, closed and broken output, files that cannot be written, calls that fail, and a file that becomes shorter in the middle."""
 import os
+import re
 import subprocess
 import time
 
@@ -50,7 +51,12 @@ def closed(b):
     """A closed output is an output that cannot be written, and never the card."""
     for words in (("list", "a.img"), ("check", "a.img"), ("read", "a.img", "1"), ("--version",)):
         to_output(b, "output closed", words, like("card: cannot write the output: {..}\n"), preexec_fn=lambda: os.close(1), stdout=None)
-    to_output(b, "output closed", PUT, like("card: done, but the report cannot be written: {..}\n"), preexec_fn=lambda: os.close(1), stdout=None)
+    b.store("a.img", whole())
+    done = b.run(*PUT, preexec_fn=lambda: os.close(1), stdout=None)
+    b.equal("put, output closed: status", done.status, 3)
+    want = "card: cannot write the output: {..}\n" if b.bytes("a.img") == whole() else "card: done, but the report cannot be written: {..}\n"
+    b.equal("put, output closed: words, by whether the card is changed", done.err, like(want))
+    b.equal("put, output closed: check", b.run("check", "a.img").status, 0)
     b.store("a.img", whole())
     done = b.run("list", "a.img", preexec_fn=lambda: (os.close(0), os.close(2)))
     b.equal("list with input and standard error closed", (done.status, len(done.out.splitlines())), (0, 4))
@@ -104,18 +110,28 @@ def mounted(b, size):
     return done.returncode == 0
 
 
+def partly(b, words):
+    """How much of a source is on the card, beside what the command says of it."""
+    with open(b.path("small/a.img"), "rb") as f:
+        f.seek(2048 * 512)
+        came = f.read(900000).rstrip(b"\0").count(1)
+    said = re.search(r"(\d+) bytes from place 0 on were written", words)
+    b.true("write on a small disk: the bytes that it says were written", not said or int(said[1]) == came, f"{came} bytes are there: {words}")
+
+
 def full_disk(b):
     if os.geteuid() != 0 or not mounted(b, "128k"):
         return b.not_run("a full disk", "a file system cannot be mounted here")
     try:
-        b.store("small/fill", bytes(120 << 10))
+        b.store("small/fill", bytes(124 << 10))
         b.refuses(("lay", "small/a.img", "--size", "1M"), "card: small/a.img: No space left on device", 3, ())
         b.remove("small/fill", "small/a.img")
         entries = {1: gpt.Entry(2048, 4000, "x", gpt.guid(1))}
         b.equal("lay on a small disk", b.run("lay", "small/a.img", "--size", "4M", "--guid", gpt.DISK).status, 0)
         b.equal("put on a small disk", b.run("put", "small/a.img", "1", "--first", "2048", "--last", "4000", "--name", "x", "--guid", gpt.guid(1)).status, 0)
         b.store("src", bytes([1]) * 900000)
-        b.refuses(("write", "small/a.img", "1", "src"), "card: small/a.img: No space left on device", 3, ())
+        done = b.refuses(("write", "small/a.img", "1", "src"), like("card: small/a.img: No space left on device{..}\n"), 3, ())
+        partly(b, done.err)
         b.equal("and check", b.run("check", "small/a.img").status, 0)
         b.equal("and list", gpt.listed(b.run("list", "small/a.img").out.splitlines()), [gpt.row(1, entries[1], 512)])
         with open(b.path("small/out"), "wb") as out:
@@ -144,7 +160,8 @@ def errors(b):
         for when in (1, 2, 3, 4):
             b.store("a.img", whole())
             done = b.run(*PUT, before=straced.injected(path, calls, f"error=EIO:when={when}"))
-            b.equal(f"put, EIO by no. {when} of {calls}", (done.status, done.out, done.err), (3, "", "card: a.img: Input/output error\n"))
+            b.equal(f"put, EIO by no. {when} of {calls}", (done.status, done.out), (3, ""))
+            b.equal(f"put, EIO by no. {when} of {calls}: words", done.err, like("card: a.img: {..}Input/output error{..}\n"))
             old_or_new(b, f"put, EIO by no. {when} of {calls}")
     for words in (("list", "a.img"), ("check", "a.img"), PUT, ("read", "a.img", "1")):
         b.store("a.img", whole())

@@ -8,10 +8,13 @@ import grow
 import labels
 import lay
 import listing
+import loop
 import payload
 import put
 import report
 import stages
+import together
+import tools
 import uefi
 import usage
 
@@ -39,4 +42,8 @@ ALL = {
     "report": report.run,
     "big": big.run,
     "failing": failing.run,
+    "together": together.run,
+    "killed": together.run_killed,
+    "tools": tools.run,
+    "loop": loop.run,
 }

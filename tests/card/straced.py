@@ -6,7 +6,7 @@ import subprocess
 
 from bench import tool
 
-CALLS = "openat,open,read,pread64,readv,preadv,preadv2,lseek,write,pwrite64,writev,pwritev,pwritev2,fsync,fdatasync,ftruncate,mmap,close"
+CALLS = "read,pread64,readv,preadv,preadv2,lseek,write,pwrite64,writev,pwritev,pwritev2,fsync,fdatasync,ftruncate,mmap,close"
 READS, WRITES = {"read", "pread64", "readv", "preadv", "preadv2"}, {"write", "pwrite64", "writev", "pwritev", "pwritev2"}
 Event = collections.namedtuple("Event", "kind place length data")
 LINE = re.compile(r"(?:\[pid +)?(\d+)\]? +(\w+)\((.*)\) += (-?\d+|0x[0-9a-f]+).*")
@@ -44,8 +44,8 @@ def plain(text):
 def event(name, words, result, at):
     """One call as an event; `at` holds the place of each descriptor."""
     fd = words.split(",", 1)[0].strip()
-    if name in ("openat", "open"):
-        at[str(result)] = 0
+    if name == "close":
+        at.pop(fd, None)
     elif name == "lseek":
         at[fd] = result
     elif name in READS | WRITES:
@@ -70,7 +70,7 @@ def event(name, words, result, at):
 def events(b, words, file, **how):
     """Runs the command under strace: what it did to the file, in order, and what it said."""
     log = b.path("strace.log")
-    done = b.run(*words, before=("strace", "-f", "-qq", "-xx", "-s", "4000000", "-o", log, "-P", os.path.realpath(b.path(file)), "-P", file, "-e", f"trace={CALLS}"), **how)
+    done = b.run(*words, before=("strace", "-f", "-qq", "-xx", "-s", "4000000", "-o", log, "-P", os.path.realpath(b.path(file)), "-e", f"trace={CALLS}"), **how)
     with open(log, errors="replace") as f:
         text = f.read()
     at, found = {}, []
@@ -85,7 +85,7 @@ def events(b, words, file, **how):
 
 def injected(file, calls, fault):
     """The words before a command of which some calls on the file fail or are slow."""
-    return ("strace", "-f", "-qq", "-o", "/dev/null", "-P", os.path.realpath(file), "-P", os.path.basename(file), "-e", f"trace={calls}", "-e", f"inject={calls}:{fault}")
+    return ("strace", "-f", "-qq", "-o", "/dev/null", "-P", os.path.realpath(file), "-e", f"trace={calls}", "-e", f"inject={calls}:{fault}")
 
 
 def prefixes(image, found):
