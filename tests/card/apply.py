@@ -2,6 +2,7 @@
 import os
 import re
 import subprocess
+import time
 
 import gpt
 from bench import like, tool
@@ -130,6 +131,67 @@ def wrong_plans(b):
     b.true("a plan with a map that is not there: its name", "maps/none.map: No such file or directory" in done.out + done.err, done)
 
 
+def failed_words(b):
+    """A card that fails in the middle: `Nothing was changed.` is said where it is so. The same card twice is no lock on itself."""
+    full = gpt.card(8192, entries={7: gpt.Entry(5000, 5010, "in the way", gpt.guid(7))})
+    for what, text in (("a second slot over another", "1: start=2048, size=10\n2: start=5005, size=10\n"), ("a second slot without a type", f"1: start=2048, size=10\n2: start=3000, size=1, type={'0' * 8}-0000-0000-0000-{'0' * 12}\n"),
+                       ("a second slot outside", "1: start=2048, size=10\n2: start=8150, size=100\n"), ("a map that is too long", "1: start=2048, size=1, file=maps/one.map\n"),
+                       ("no date", "1: start=2048, size=10, date=2026-13-01, style=3, sheet=1\n"), ("two dates", "1: start=2048, size=1, date=2026-05-01, style=3, sheet=1\n2: start=2050, size=1, date=2026-05-02, style=3, sheet=1\n")):
+        b.store("plans/half", ("label: gpt\n" + text).encode())
+        b.store("a.img", full)
+        done = b.run("apply", "plans/half", "a.img")
+        last = slot_lines(done, "a.img")[1]
+        b.equal(f"apply with {what}: status", done.status, 1)
+        b.equal(f"apply with {what}: words", last, like("failed: {..} [{n}]"))
+        same = b.bytes("a.img") == full
+        b.true(f"apply with {what}: the words of no change, by whether a byte changed", same or "Nothing was changed" not in done.out + done.err, done.out + done.err)
+        b.equal(f"apply with {what}: check", b.run("check", "a.img").status, 0)
+    b.store("a.img", bytes(4 << 20))
+    b.store("plans/crlf", PLAN.replace("\n", "\r\n").encode())
+    done = b.run("apply", "plans/crlf", "a.img", "a.img")
+    b.equal("apply of a plan with CR LF, onto one card twice", (done.status, done.out.splitlines()[-1:]), (0, ["2 cards done, 0 failed"]))
+    b.true("apply of a plan with CR LF: the bytes", b.bytes("a.img") == planned(bytes(4 << 20)))
+
+
+def names_of_dumps(b):
+    """sfdisk writes quotes, and all that is not ASCII, as \\x and two digits: a dump's names come back as they were."""
+    names = {1: ('a "b" $c', r"a \x22b\x22 \x24c"), 2: ("höhen 高程", r"h\xc3\xb6hen \xe9\xab\x98\xe7\xa8\x8b"), 3: ("x\\y, z=1", r"x\x5cy, z=1")}
+    entries = {s: gpt.Entry(2000 + s, 2000 + s, name, gpt.guid(s)) for s, (name, _) in names.items()}
+    lines = "".join(f'/dev/sdb{s} : start={2000 + s}, size=1, type={gpt.TYPES["data"].upper()}, uuid={gpt.guid(s).upper()}, name="{text}"\n' for s, (_, text) in names.items())
+    b.store("dump", f"label: gpt\nlabel-id: {gpt.DISK}\n\n{lines}".encode())
+    b.store("a.img", bytes(4 << 20))
+    b.equal("apply of a dump with names in \\x: status", b.run("apply", "dump", "a.img").status, 0)
+    came = {s: e.name for s, e in gpt.slots(b.bytes("a.img"), 512).items()}
+    b.equal("apply of a dump with names in \\x: the names", came, {s: name for s, (name, _) in names.items()})
+    if not tool("sfdisk"):
+        return b.not_run("apply of a dump by sfdisk -d with such names", "there is no sfdisk")
+    b.store("c.img", gpt.card(8192, entries=entries))
+    b.store("dump", subprocess.run(["sfdisk", "-d", "c.img"], cwd=b.folder, capture_output=True).stdout)
+    b.store("a.img", bytes(4 << 20))
+    b.equal("apply of a dump by sfdisk -d with such names: status", b.run("apply", "dump", "a.img").status, 0)
+    b.true("apply of a dump by sfdisk -d with such names: the bytes", b.bytes("a.img") == b.bytes("c.img"))
+
+
+def killed(b):
+    """An apply that is killed at some moment is brought to its end by a repair and another apply."""
+    blank = bytes(4 << 20)
+    b.store("a.img", blank)
+    began = time.monotonic()
+    b.run("apply", "plans/plan", "a.img")
+    usual = time.monotonic() - began
+    for turn in range(max(b.kills // 10, 1)):
+        b.store("a.img", blank)
+        p = b.start("apply", "plans/plan", "a.img", stdout=subprocess.DEVNULL, stderr=subprocess.DEVNULL)
+        time.sleep(b.rng.random() * usual * 1.1)
+        p.kill()
+        p.wait()
+        b.run("repair", "a.img")
+        done = b.run("apply", "plans/plan", "a.img")
+        b.equal(f"apply killed, then repair and apply ({turn}): status", done.status, 0)
+        b.equal(f"apply killed, then repair and apply ({turn}): last line", slot_lines(done, "a.img")[1], like(DONE.format("{n}")))
+        b.true(f"apply killed, then repair and apply ({turn}): the bytes", b.bytes("a.img") == planned(blank))
+
+
 def dumps(b):
     """A dump of sfdisk is a plan; a plan without dates says so."""
     dump = f"""label: gpt
@@ -189,5 +251,8 @@ def run(b):
     changes(b)
     several(b)
     wrong_plans(b)
+    failed_words(b)
     dumps(b)
+    names_of_dumps(b)
+    killed(b)
     dry(b)

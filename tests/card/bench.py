@@ -117,10 +117,10 @@ class Bench:
         return self.equal(what, True if fact else f"no {came}", True)
 
     def says(self, words, out="", err="", status=0, **how):
-        """Runs the command, and compares its status, its output and its error lines."""
+        """Runs the command, and compares its status (None: any of the four), its output and its error lines."""
         done = self.run(*words, **how)
         line = "card " + shlex.join(done.words)
-        self.equal(f"{line}: status", done.status, status)
+        self.equal(f"{line}: status", done.status in (0, 1, 2, 3) if status is None else done.status, True if status is None else status)
         self.equal(f"{line}: standard output", done.out, out)
         self.equal(f"{line}: standard error", done.err, err)
         return done

@@ -64,6 +64,15 @@ def one_table(b):
                 b.refuses((command, "a.img", *more), f"{line}. Nothing was changed. [{number}]")
 
 
+def one_table_wide(b):
+    """The same at 4096, where the advice may name the block size too."""
+    whole = gpt.card(128, 4096, ENTRIES)
+    for front, here, there in ((True, "front", "back"), (False, "back", "front")):
+        for number, words in WORDS.items():
+            b.store("a.img", damaged(whole, 4096, front, number))
+            b.refuses(("check", "a.img", "-b", "4096"), like(f"card: a.img: {here} table: {words}; the {there} is good: card repair {{..}}a.img{{..}} [{number}]\n"))
+
+
 def wrong_entries(b):
     """Tables whose sums are right and whose entries are not a card's: 16 where both have them, and 17 where one does; the reader takes the other."""
     whole = gpt.card(128, entries=ENTRIES)
@@ -139,6 +148,7 @@ def differing(b):
 def run(b):
     whole_cards(b)
     one_table(b)
+    one_table_wide(b)
     wrong_entries(b)
     both_tables(b)
     lengths(b)

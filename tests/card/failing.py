@@ -192,6 +192,17 @@ def shrinks(b):
         b.equal(f"put into a file that becomes {what} in the middle: its length", os.path.getsize(path), length)
 
 
+def shrinks_mapped(b):
+    """The file becomes shorter under the mapping of uefi."""
+    b.store("a.img", whole())
+    p = subprocess.Popen([*straced.injected(b.path("a.img"), "mmap", "delay_exit=1500000:when=1"), *CARD, "uefi", "a.img"], cwd=b.folder, stdout=subprocess.PIPE, stderr=subprocess.PIPE, env=b.environment())
+    time.sleep(0.8)
+    os.truncate(b.path("a.img"), 100)
+    done = b.ended(p)
+    b.equal("uefi of a file that becomes shorter: status", done.status, 3)
+    b.true("uefi of a file that becomes shorter: words", done.err.startswith("card: "), done)
+
+
 def shrinks_piped(b):
     """The same while a write waits for its standard input."""
     b.store("a.img", whole())
@@ -218,3 +229,4 @@ def run(b):
         return b.not_run("EIO, EINTR and a file that becomes shorter between two stores", straced.missing())
     errors(b)
     shrinks(b)
+    shrinks_mapped(b)

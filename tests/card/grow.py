@@ -26,6 +26,14 @@ def grown(b):
         b.equal("a put in the new ground", b.run("put", "a.img", "2", "--first", new - 16384 // size - 2, "--last", new - 16384 // size - 2, "-b", size).status, 0 if new > 129 else None)
 
 
+def front_alone(b):
+    """The front table for the shorter length is enough, whatever became of the old back."""
+    for number in (4, 5, 6, 16):
+        b.store("a.img", damaged(gpt.card(128, entries=ENTRIES), 512, False, number) + bytes(64 * 512))
+        b.says(("grow", "a.img"), "card grown from 128 to 192 blocks of 512 bytes (96 KiB): 3 slots stay as they were\n")
+        b.equal(f"grow of a card whose old back is {number}: list", listed(b), [gpt.row(s, e, 512) for s, e in ENTRIES.items()])
+
+
 def refused(b):
     b.store("a.img", gpt.card(128, entries=ENTRIES))
     b.says(("grow", "a.img"), "nothing to grow: the card has all 128 blocks of the file\n")
@@ -36,10 +44,20 @@ def refused(b):
         b.refuses(("grow", "a.img"), like("card: a.img{..} Nothing was changed.{..}\n"))
 
 
+def advised(b, size):
+    """Does what the check's refusal says, until it accepts or says nothing more."""
+    for _ in range(3):
+        words = b.run("check", "a.img", "-b", size).err
+        command = next((c for c in ("grow", "repair") if f"card {c} " in words), None)
+        if not command:
+            return
+        b.run(command, "a.img", "-b", size)
+
+
 def cut_grow(b):
-    """Cut after each of its writes, the grow is begun again and ends with every slot."""
-    for size in (512, 4096):
-        image = gpt.card(128, size, ENTRIES, fill=0xA5) + bytes(72 * size)
+    """Cut after each of its writes, what the check then advises brings every slot back. Where the card grew by less than a table, the new one lies over the old."""
+    for size, more in ((512, 72), (512, 1), (512, 20), (4096, 72), (4096, 1), (4096, 3)):
+        image = gpt.card(128, size, ENTRIES, fill=0xA5) + bytes(more * size)
         b.store("a.img", image)
         found, done = straced.events(b, ("grow", "a.img", "-b", size), "a.img")
         steps = list(straced.prefixes(image, found))
@@ -48,11 +66,10 @@ def cut_grow(b):
             b.store("a.img", step)
             shown = b.run("show", "a.img", "-b", size)
             rows = gpt.listed(shown.out.splitlines()[1:]) if shown.status == 0 else None
-            b.true(f"grow at {size}, cut after {count} writes: show has all slots, or says the card has grown", rows == [gpt.row(s, e, size) for s, e in ENTRIES.items()] if shown.status == 0 else shown.status == 1, shown)
-            b.equal(f"grow at {size}, cut after {count} writes, grown again: status", b.run("grow", "a.img", "-b", size).status, 0)
-            b.run("repair", "a.img", "-b", size)
-            b.equal(f"grow at {size}, cut after {count} writes, grown again: check", b.run("check", "a.img", "-b", size).status, 0)
-            b.equal(f"grow at {size}, cut after {count} writes, grown again: list", listed(b, size), [gpt.row(s, e, size) for s, e in ENTRIES.items()])
+            b.true(f"grow by {more} at {size}, cut after {count} writes: show has all slots, or says the card has grown", rows == [gpt.row(s, e, size) for s, e in ENTRIES.items()] if shown.status == 0 else shown.status == 1, shown)
+            advised(b, size)
+            b.equal(f"grow by {more} at {size}, cut after {count} writes, mended as check advises: check", b.run("check", "a.img", "-b", size).err, "")
+            b.equal(f"grow by {more} at {size}, cut after {count} writes, mended as check advises: list", listed(b, size), [gpt.row(s, e, size) for s, e in ENTRIES.items()])
 
 
 def shown_slots(done):
@@ -99,6 +116,7 @@ def order(b):
 
 def run(b):
     grown(b)
+    front_alone(b)
     refused(b)
 
 

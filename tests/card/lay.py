@@ -1,5 +1,6 @@
 """lay: new files, files that are there, cards that would lose slots, and files that are too short."""
 import os
+import resource
 
 import gpt
 from bench import like
@@ -70,6 +71,10 @@ def too_short(b):
             if blocks:
                 b.refuses(("lay", "new.img", "-b", size, "--size", blocks * size), like("card: new.img" + words), 1, ())
                 b.true("a file that lay made and refused is removed again", not os.path.exists(b.path("new.img")))
+    b.refuses(("lay", "new.img", "--size", "0"), "card: new.img not laid: it has 0 blocks of 512 bytes, and a card has at least 68. Nothing was changed. [8]", 1, ())
+    b.true("lay --size 0 makes no file", not os.path.exists(b.path("new.img")))
+    b.refuses(("lay", "new.img", "--size", "1G"), "card: new.img: File too large", 3, (), restore_signals=False, preexec_fn=lambda: resource.setrlimit(resource.RLIMIT_FSIZE, (1 << 20, 1 << 20)))
+    b.true("lay of a file that is too long for the disk makes no file", not os.path.exists(b.path("new.img")))
     b.store("e.img", b"")
     b.refuses(("lay", "e.img", "--size", "1K"), "card: e.img not laid: it has 2 blocks of 512 bytes, and a card has at least 68. Nothing was changed. [8]", files=("e.img",))
     b.refuses(("lay", "e.img"), "card: e.img not laid: it has 0 blocks of 512 bytes, and a card has at least 68. Nothing was changed. [8]", files=("e.img",))

@@ -1,6 +1,10 @@
 """list as a table, as JSON and as a map, and free: what stands on a card, in words, to scale, and beside sfdisk."""
+import fcntl
 import json
+import os
+import struct
 import subprocess
+import termios
 
 import gpt
 from bench import like, tool
@@ -138,6 +142,20 @@ def maps(b):
     b.equal("list --map of no slots", parts(b.run("list", "a.img", "--map", "-b", "4096")), ["  free 6..122 468 KiB"])
 
 
+def on_terminal(b):
+    """Without COLUMNS the terminal's own width counts."""
+    b.store("a.img", gpt.card(8192, entries=ODD))
+    for columns in (60, 150):
+        master, slave = os.openpty()
+        fcntl.ioctl(slave, termios.TIOCSWINSZ, struct.pack("HHHH", 24, columns, 0, 0))
+        p = subprocess.Popen(b.command("list", "a.img", "--map"), cwd=b.folder, env=b.environment(), stdin=subprocess.DEVNULL, stdout=slave, stderr=subprocess.DEVNULL)
+        status = p.wait(60)
+        os.close(slave)
+        text = os.read(master, 65536).decode().replace("\r\n", "\n")
+        os.close(master)
+        b.equal(f"list --map on a terminal of {columns}", (status, text), (0, b.run("list", "a.img", "--map", env={"COLUMNS": str(columns)}).out))
+
+
 def scale(b):
     """The share of the drawing that is free is the card's."""
     b.store("a.img", gpt.card(10000))
@@ -177,6 +195,7 @@ def run(b):
 
 def run_map(b):
     maps(b)
+    on_terminal(b)
     scale(b)
 
 

@@ -108,7 +108,29 @@ def refusals(b):
     b.refuses(("write", "a.img", "1", "none"), "card: none: No such file or directory", 3)
     os.mkdir(b.path("folder"))
     b.refuses(("write", "a.img", "1", "folder"), like("card: folder{..}\n"), 3)
-    b.refuses(("write", "a.img", "1", "a.img"), like("card: {..}\n"), None)
+    b.refuses(("write", "a.img", "1", "a.img"), like("card: slot 1 not written: bytes 0 to 65535 pass its end: the partition has 16384 bytes. Nothing was changed. [24]\n"))
+    b.refuses(("write", "a.img", "1", "/dev/zero"), like("card: slot 1 not written{..} pass its end: the partition has 16384 bytes. Nothing was changed. [24]\n"))
+    b.says(("write", "a.img", "1", "/dev/null"), "slot 1: 0 bytes written from place 0, verified\n")
+    on_terminal(b)
+
+
+def on_terminal(b):
+    """Progress is shown where standard error is a terminal."""
+    entries = {1: gpt.Entry(2048, 34815, "map", gpt.guid(1))}
+    b.store("t.img", gpt.card(40000, entries=entries))
+    b.store("src", bytes(16 << 20))
+    master, slave = os.openpty()
+    p = subprocess.Popen(b.command("write", "t.img", "1", "src"), cwd=b.folder, env=b.environment(), stdin=subprocess.DEVNULL, stdout=subprocess.PIPE, stderr=slave)
+    os.close(slave)
+    out = p.stdout.read()
+    status = p.wait(60)
+    try:
+        shown = os.read(master, 65536)
+    except OSError:
+        shown = b""
+    os.close(master)
+    b.equal("write with a terminal: status and output", (status, out), (0, b"slot 1: 16777216 bytes written from place 0, verified\n"))
+    b.true("write with a terminal: progress is shown", shown.strip() != b"", shown)
 
 
 def run(b):

@@ -1,5 +1,7 @@
 """The words of the command line: help, version, options anywhere, usage errors, sizes and types, and files that are not there."""
+import json
 import os
+import socket
 
 import gpt
 from bench import like
@@ -50,7 +52,10 @@ def wrong_words(b):
     for command, lists in wrong.items():
         for words in lists:
             b.refuses((command, *words), like(f"card: {{..}}; see: card help {command}\n"), 2)
-    b.refuses(("list", "a.img", "--dry-run"), like("card: {..}; see: card help list\n"), 2)
+    for command, *words in (("list", "--dry-run"), ("list", "--json=1"), ("check", "--mounted"), ("put", "1", "--size", "0"), ("put", "1", "--size", "1K", "--stop-after", "0"),
+                            ("put", "1", "--size", "1K", "--stop-after", "5"), ("write", "1", "src", "--stop-after", "1"), ("put", "1", "--size", "1K", "--name", "\udcff")):
+        b.refuses((command, "a.img", *words), like(f"card: {{..}}; see: card help {command}\n"), 2)
+    b.equal("put --mounted of a file", b.run("put", "a.img", "1", "--size", "1K", "--mounted").status, 0)
 
 
 def places(b):
@@ -70,6 +75,32 @@ def places(b):
     b.store("b.img", gpt.card(128, 4096))
     for words in (("-b", "4096", "b.img"), ("b.img", "-b", "4096"), ("--block-size", "4096", "b.img"), ("b.img", "--block-size=4096")):
         b.says(("check", *words), f"b.img: whole: 128 blocks of 4096 bytes (512 KiB), 0 of 128 slots used, GUID {gpt.DISK}\n")
+
+
+def odd_files(b):
+    """Names and kinds of files that a shell can hand over."""
+    image = gpt.card(128, entries={1: gpt.Entry(40, 49, "map", gpt.guid(1))})
+    for name in ('q"u\\o\tt.img', "höhe 高.img", "a b", "%s%n"):
+        b.store(name, image)
+        b.says(("check", name), f"{name}: whole: 128 blocks of 512 bytes (64 KiB), 1 of 128 slots used, GUID {gpt.DISK}\nwarning: slot 1 begins at block 40, which is no multiple of 1 MiB\n")
+        found = json.loads(b.run("list", name, "--json").out or "{}")
+        b.equal(f"list {name!r} --json: the device", found.get("partitiontable", {}).get("device"), name)
+    b.store(b"b\xffd.img".decode("utf-8", "surrogateescape"), image)
+    for words in (("check",), ("list", "--json"), ("report",), ("show",)):
+        b.equal(f"{words[0]} of a file whose name is no UTF-8", b.run(words[0], b"b\xffd.img".decode("utf-8", "surrogateescape"), *words[1:]).status, 0)
+    os.symlink("a b", b.path("link.img"))
+    b.equal("clear by a symbolic link", b.run("clear", "link.img", "1").status, 0)
+    b.true("clear by a symbolic link: the bytes, and the link stays", b.bytes("a b") == gpt.card(128) and os.path.islink(b.path("link.img")))
+    os.symlink("loop.img", b.path("loop.img"))
+    b.refuses(("list", "loop.img"), "card: loop.img: Too many levels of symbolic links", 3, ())
+    with socket.socket(socket.AF_UNIX) as s:
+        s.bind(b.path("sock"))
+        b.refuses(("list", "sock"), like("card: sock is a socket, not a card\n"), 3, ())
+    master, slave = os.openpty()
+    for command in (("list",), ("clear", "1")):
+        b.refuses((command[0], os.ttyname(slave), *command[1:]), like(f"card: {os.ttyname(slave)} is a terminal{{..}}, not a card\n"), 3, ())
+    os.close(master)
+    os.close(slave)
 
 
 def not_there(b):
@@ -132,6 +163,7 @@ def run(b):
     help_texts(b)
     wrong_words(b)
     places(b)
+    odd_files(b)
     not_there(b)
 
 
