@@ -2,6 +2,7 @@
 import apply
 import big
 import check
+import drawn
 import dry
 import failing
 import grow
@@ -38,6 +39,7 @@ ALL = {
     "grow": grow.run,
     "cuts": grow.run_cuts,
     "apply": apply.run,
+    "drawn": drawn.run,
     "uefi": uefi.run,
     "report": report.run,
     "big": big.run,

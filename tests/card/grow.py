@@ -99,6 +99,41 @@ def cut_lay(b):
         b.true(f"lay {what}: it ends with the new table", turned)
 
 
+def cut_repair(b):
+    """A repair stores one block after the other; cut after each of them, the reader shows the same slots."""
+    rows = [gpt.row(s, e, 4096) for s, e in ENTRIES.items()]
+    for front in (True, False):
+        head, array = gpt.places(128 * 4096, 4096, front)
+        whole = gpt.card(128, 4096, ENTRIES)
+        image = gpt.stored(gpt.stored(whole, head, b"\x5a" * 4096), array, b"\x5a" * 16384)
+        b.store("a.img", image)
+        found, done = straced.events(b, ("repair", "a.img", "-b", "4096"), "a.img")
+        kinds = [e.kind for e in found if e.kind in ("write", "sync")]
+        b.equal("repair at 4096: six stores, each stored before the next", kinds[:12], ["write", "sync"] * 6)
+        for count, step in enumerate(straced.prefixes(image, found)):
+            b.store("a.img", step)
+            b.equal(f"repair at 4096, cut after {count} stores", shown_slots(b.run("show", "a.img", "-b", "4096")), rows)
+
+
+def payloads(b):
+    """A write is read back once it is stored; a wipe is stored before its slot is cleared; a write that the disk forgets is not called verified."""
+    image, data = gpt.card(128, entries=ENTRIES), b.rng.randbytes(900)
+    b.store("src", data)
+    for words, first, length in ((("write", "a.img", "1", "src"), 34 * 512, 900), (("label", "a.img", "1", "--date", "2026-05-01", "--style", "3", "--sheet", "1"), 34 * 512, 13)):
+        b.store("a.img", image)
+        found, _ = straced.events(b, words, "a.img")
+        kinds = ["write" if e.kind == "write" else "sync" if e.kind == "sync" else "back" for e in found if e.kind in ("write", "sync") or e.kind == "read" and e.place >= first and e.place + e.length <= first + length]
+        b.true(f"{words[0]}: written, stored, and then read back", "sync" in kinds and kinds.index("write") < kinds.index("sync") and kinds[-1] == "back" or kinds[-1:] == ["sync"] and "back" in kinds, kinds)
+        b.store("a.img", image)
+        done = b.run(*words, before=straced.injected(b.path("a.img"), "pwrite64,write", f"retval={length}:when=1"))
+        b.true(f"{words[0]} that the disk forgets is not verified", done.status in (1, 3) and "verified" not in done.out, done)
+    b.store("a.img", gpt.stored(image, 60 * 512, b"x" * 35 * 512))
+    found, _ = straced.events(b, ("clear", "a.img", "6", "--wipe"), "a.img")
+    kinds = ["sync" if e.kind == "sync" else "payload" if 60 * 512 <= e.place < 95 * 512 else "table" for e in found if e.kind in ("write", "sync")]
+    first = kinds.index("table") if "table" in kinds else 0
+    b.true("clear --wipe: the zeros are stored before the table changes", "payload" in kinds[:first] and kinds[first - 1] == "sync" and "payload" not in kinds[first:], kinds)
+
+
 def order(b):
     """put and clear: four blocks, each stored before the next is written, the back table first."""
     for size in (512, 4096):
@@ -125,4 +160,6 @@ def run_cuts(b):
         return b.not_run("cuts of grow and lay after each write, and the order of put's stores", straced.missing())
     cut_grow(b)
     cut_lay(b)
+    cut_repair(b)
+    payloads(b)
     order(b)
