@@ -2,6 +2,7 @@
 import apply
 import big
 import check
+import cuts
 import drawn
 import dry
 import failing
@@ -37,7 +38,7 @@ ALL = {
     "show": stages.run_show,
     "dry-run": dry.run,
     "grow": grow.run,
-    "cuts": grow.run_cuts,
+    "cuts": cuts.run,
     "apply": apply.run,
     "drawn": drawn.run,
     "uefi": uefi.run,
