@@ -100,6 +100,7 @@ def read_only(b):
             continue  # nothing to do
         b.equal(f"{words[0]} of a file that may be read alone", (done.status, done.err), (3, "card: a.img: Permission denied\n"))
     b.true("a file that may be read alone: the bytes", b.bytes("a.img") == whole())
+    os.chmod(b.path("a.img"), 0o644)
     b.refuses(("lay", "folder/none/a.img", "--size", "64K"), "card: folder/none/a.img: No such file or directory", 3)
 
 

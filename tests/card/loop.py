@@ -77,8 +77,9 @@ def mount(b, device, place):
 def partition_mounted(b, device):
     """A partition of the device is mounted, if the kernel shows partitions of loop devices."""
     node, place = f"{device}p1", b.path("mnt")
-    subprocess.run(["blockdev", "--rereadpt", device], capture_output=True)
-    subprocess.run(["partx", "-u", device], capture_output=True)
+    for words in (("blockdev", "--rereadpt"), ("partx", "-u")):
+        if tool(words[0]):
+            subprocess.run([*words, device], capture_output=True)
     if not os.path.exists(node):
         return b.not_run("a mounted partition", f"the kernel makes no {node} here")
     subprocess.run(["mkfs.ext4", "-q", "-F", node], capture_output=True)
