@@ -153,6 +153,35 @@ def failed_words(b):
     b.true("apply of a plan with CR LF: the bytes", b.bytes("a.img") == planned(bytes(4 << 20)))
 
 
+def places(b):
+    """at= with and without a label, and lines that leave much out; a second run changes no byte."""
+    text = """label: gpt
+1: start=2048, size=4, file=maps/two.map, at=100, date=2026-05-01, style=3, sheet=1
+2: start=2060, size=4, file=maps/two.map, at=7
+3: size=1K
+4: start=3000, size=513B
+"""
+    b.store("plans/places", text.encode())
+    b.store("a.img", gpt.card(8192))
+    done = b.run("apply", "plans/places", "a.img")
+    b.equal("apply with at=: status", (done.status, slot_lines(done, "a.img")[1]), (0, "done: 4 slots, 4 changed; one date: 2026-05-01, style 3"))
+    came = b.bytes("a.img")
+    made = gpt.slots(came, 512)
+    want = gpt.stored(gpt.card(8192, entries=made), 2048 * 512, gpt.label(2026, 5, 1, 3, 1))
+    want = gpt.stored(gpt.stored(want, 2048 * 512 + 100, MAP2), 2060 * 512 + 7, MAP2)
+    b.true("apply with at=: the bytes", came == want)
+    b.equal("apply with at=: the blocks", {s: (e.first, e.last, e.type) for s, e in made.items()},
+            {1: (2048, 2051, gpt.TYPES["data"]), 2: (2060, 2063, gpt.TYPES["data"]), 3: (4096, 4097, gpt.TYPES["data"]), 4: (3000, 3001, gpt.TYPES["data"])})
+    done = b.run("apply", "plans/places", "a.img")
+    b.equal("apply with at= again", (done.status, slot_lines(done, "a.img")), (0, ([f"slot {s}: as planned" for s in (1, 2, 3, 4)], "done: 4 slots, 0 changed; one date: 2026-05-01, style 3")))
+    b.true("apply with at= again: no byte changes", b.bytes("a.img") == came)
+    b.store("a.img", bytes(4 << 20))
+    b.store("plans/nolabel", b"1: start=2048, size=4\n")
+    old = b.bytes("a.img")
+    done = b.run("apply", "plans/nolabel", "a.img")
+    b.equal("a plan without label: gpt lays no card", (done.status, b.bytes("a.img") == old), (1, True))
+
+
 def names_of_dumps(b):
     """sfdisk writes quotes, and all that is not ASCII, as \\x and two digits: a dump's names come back as they were."""
     names = {1: ('a "b" $c', r"a \x22b\x22 \x24c"), 2: ("höhen 高程", r"h\xc3\xb6hen \xe9\xab\x98\xe7\xa8\x8b"), 3: ("x\\y, z=1", r"x\x5cy, z=1")}
@@ -253,6 +282,7 @@ def run(b):
     wrong_plans(b)
     failed_words(b)
     dumps(b)
+    places(b)
     names_of_dumps(b)
     killed(b)
     dry(b)

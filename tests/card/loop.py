@@ -93,6 +93,37 @@ def partition_mounted(b, device):
     b.equal("clear once it is unmounted", b.run("put", device, "6", "--first", "40000", "--last", "40001").status, 0)
 
 
+def grown(b, size):
+    """A device that became longer: grow takes all of it."""
+    b.sparse("a.img", 16 << 20)
+    device, _ = attached(b, size)
+    try:
+        b.run("lay", device, "--guid", gpt.DISK)
+        entry = gpt.Entry(500, 600, "map", gpt.guid(1))
+        b.run("put", device, "1", "--first", "500", "--last", "600", "--name", "map", "--guid", gpt.guid(1))
+        os.truncate(b.path("a.img"), 48 << 20)
+        subprocess.run(["losetup", "-c", device], check=True)
+        old, new = (16 << 20) // size, (48 << 20) // size
+        b.refuses(("check", device), f"card: {device}: front table: it is not laid out as a card's; it is laid for {old} blocks, and the file has {new}: card grow {device} [16]", files=())
+        b.says(("grow", device), like(f"card grown from {old} to {new} blocks of {size} bytes (48 MiB): 1 slot{{..}} as {{..}}\n"))
+        settled(device)
+        tables = gpt.tables(new, size, {1: entry})
+        b.true(f"grow {device}: the bytes of the tables", all(b.bytes("a.img")[p:p + len(d)] == d for p, d in tables.items()))
+    finally:
+        subprocess.run(["losetup", "-d", device])
+
+
+def read_only(b):
+    """A device that may be read alone."""
+    b.store("a.img", gpt.card(4096, entries={1: gpt.Entry(500, 600, "map", gpt.guid(1))}))
+    device, _ = attached(b, 512, "-r")
+    try:
+        b.equal("check of a read-only device", b.run("check", device).status, 0)
+        b.refuses(("clear", device, "1"), like(f"card: {device}: {{..}}\n"), 3)
+    finally:
+        subprocess.run(["losetup", "-d", device])
+
+
 def whole_mounted(b):
     """The device itself is mounted: a card whose bytes are a file system's too cannot be, so the file system stands alone."""
     b.sparse("a.img", 32 << 20)
@@ -128,5 +159,8 @@ def run(b):
                 partition_mounted(b, device)
         finally:
             subprocess.run(["losetup", "-d", device])
+        grown(b, size)
+    if device:
+        read_only(b)
     if tool("mkfs.ext4") and device:
         whole_mounted(b)
