@@ -65,6 +65,17 @@ def card(b, size):
     b.equal("list", gpt.listed(b.run("list", "a.img", "-b", size).out.splitlines()), [gpt.row(1, entries[1], size)])
 
 
+def mapped(b, size):
+    """uefi maps the file; an emulator first asks for as much memory, which not every machine grants."""
+    done = b.run("uefi", "a.img", "-b", size)
+    if done.err == "card: a.img: Cannot allocate memory\n":
+        return b.not_run(f"uefi of 64 GiB at {size}", "so much cannot be mapped here")
+    halves = done.out.split("back table:\n")
+    b.equal("uefi: status", (done.status, done.err, len(halves)), (0, "", 2))
+    for half in (halves[0].replace("front table:\n", ""), halves[-1]):
+        b.equal("uefi: the rows", [r[:4] for r in gpt.listed(half.splitlines())], [("1", str((1 << 20) // size), str((1 << 20) // size + (32 << 30) // size - 1), "32 GiB")])
+
+
 def traced(b, size):
     """What each command reads and writes: the tables' own bytes, and the payload's."""
     spans, most = windows(size), (2 * gpt.per(size) + 3) * size
@@ -95,6 +106,7 @@ def run(b):
     for size in (512, 4096):
         b.remove("a.img")
         card(b, size)
+        mapped(b, size)
         b.store("src", b.rng.randbytes(10000))
         if straced.missing():
             b.not_run("where the reads are", straced.missing())

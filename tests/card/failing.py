@@ -25,9 +25,8 @@ def to_output(b, what, words, wanted, **how):
     b.store("a.img", whole())
     b.store("src", b"map")
     done = b.run(*words, **how)
-    b.equal(f"card {' '.join(words)}, {what}", (done.status, done.err), (3, wanted) if isinstance(wanted, str) else (3, done.err))
-    if not isinstance(wanted, str):
-        b.equal(f"card {' '.join(words)}, {what}: words", done.err, wanted)
+    b.equal(f"card {' '.join(words)}, {what}: status", done.status, 3)
+    b.equal(f"card {' '.join(words)}, {what}: words", done.err, wanted)
     changed = b.bytes("a.img") != whole()
     b.equal(f"card {' '.join(words)}, {what}: the card is changed", changed, words in WRITERS)
     b.equal("and check", b.run("check", "a.img").status, 0)
