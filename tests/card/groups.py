@@ -3,6 +3,7 @@ import apply
 import big
 import check
 import cuts
+import damage
 import drawn
 import dry
 import failing
@@ -41,6 +42,7 @@ ALL = {
     "cuts": cuts.run,
     "apply": apply.run,
     "drawn": drawn.run,
+    "damage": damage.run,
     "uefi": uefi.run,
     "report": report.run,
     "big": big.run,
