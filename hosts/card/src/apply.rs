@@ -2,13 +2,13 @@
 use crate::args::{self, Args};
 use crate::dry;
 use crate::failure::{io_failure, Failure, Outcome};
-use crate::medium::drawn_guid;
+use crate::medium::{drawn_guid, Medium};
 use crate::opened::{block_size, io_words, Opened};
 use crate::output::Out;
 use crate::payload::{self, Source, CHUNK};
 use crate::plan::{self, Line, Plan};
 use crate::progress::Progress;
-use crate::table::{access, lay_on, medium_to_lay, put_record, room_in, tell_kernel};
+use crate::table::{access, lay_on, lengthened, medium_to_lay, put_record, room_in, tell_kernel};
 use crate::words::{self, count, quoted};
 use card::{crc32_next, Label, Record, FRESH};
 use std::io;
@@ -113,14 +113,17 @@ fn one(args: &Args, plan: &Plan, path: &Path, size: Option<u64>, touched: &mut b
 /// The card in a file, which is laid first where the plan asks for it and the file is none.
 fn card_of(args: &Args, plan: &Plan, path: &Path, size: Option<u64>, touched: &mut bool, out: &mut Out) -> Outcome<Opened> {
     let shown = path.display().to_string();
-    let (medium, made) = match plan.lay {
+    let (mut medium, made) = match plan.lay {
         true => medium_to_lay(args, path, size)?,
-        false => (crate::medium::Medium::open(path, access(args))?, false),
+        false => (Medium::open(path, access(args))?, false),
     };
     let block_size = match (args.has("block-size"), plan.block_size) {
         (false, Some(block_size)) => block_size,
         _ => block_size(args, &medium, &shown)?,
     };
+    if let Some(size) = size.filter(|_| plan.lay) {
+        medium = lengthened(medium, path, size, block_size, access(args))?;
+    }
     let again = medium.again(None).map_err(|failure| io_failure(&shown, &failure))?;
     let opened = match Opened::of(medium, path, block_size, access(args)) {
         Ok(opened) => opened,

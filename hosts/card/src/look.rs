@@ -58,6 +58,9 @@ fn has_protective_mbr(head: &[u8], b: u64) -> bool {
 
 /// `list FILE [--json] [--map]`
 pub fn list(mut args: Args, out: &mut Out) -> Outcome {
+    if args.has("json") && args.has("map") {
+        return args.usage("--json and --map are two lists: say one of them");
+    }
     let opened = opened(&mut args)?;
     let entries: Vec<Entry> = opened.checked(opened.card.list())?.collect();
     if args.has("json") {

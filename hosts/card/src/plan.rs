@@ -86,7 +86,11 @@ fn slot_line(key: &str, rest: &str, folder: &Path) -> Result<Line, String> {
     let mut line =
         Line { slot, start: None, size: None, type_guid: Guid::BASIC_DATA, guid: None, name: Name::EMPTY, flags: Flags::NONE, file: None, at: 0, label: None };
     let (mut parts, mut at) = (LabelParts::default(), None);
-    for (key, value) in fields(rest)? {
+    let fields = fields(rest)?;
+    if let Some((key, _)) = fields.iter().enumerate().find(|(i, (key, _))| fields[..*i].iter().any(|(other, _)| other == key)).map(|(_, field)| field) {
+        return Err(format!("{key} stands twice"));
+    }
+    for (key, value) in fields {
         match key.as_str() {
             "start" => line.start = Some(number(&value)?),
             "size" if value == "+" => line.size = None,
@@ -192,9 +196,18 @@ mod tests {
     /// What a plan must not say.
     #[test]
     fn wrong_lines() {
-        for line in
-            ["1", "1: size", "x: size=1", "1: size=1, date=2026-05-01", "1: size=0", "label: dos", "1: name=\"a", "1: name=\"a\" size=1", "1: colour=red"]
-        {
+        for line in [
+            "1",
+            "1: size",
+            "x: size=1",
+            "1: size=1, date=2026-05-01",
+            "1: size=0",
+            "label: dos",
+            "1: name=\"a",
+            "1: name=\"a\" size=1",
+            "1: colour=red",
+            "1: start=40, size=1, start=41",
+        ] {
             assert!(Plan::default().take(line, Path::new("")).is_err(), "{line}");
         }
     }

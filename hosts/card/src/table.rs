@@ -60,20 +60,17 @@ pub fn medium_to_lay(args: &Args, path: &Path, size: Option<u64>) -> Outcome<(Me
 }
 
 /// Lays the card, if that drops no slot.
-fn laid(args: &Args, mut medium: Medium, path: &Path, size: Option<u64>, guid: Option<Guid>, out: &mut Out) -> Outcome {
+fn laid(args: &Args, medium: Medium, path: &Path, size: Option<u64>, guid: Option<Guid>, out: &mut Out) -> Outcome {
     let shown = path.display().to_string();
     let failed = |failure: io::Error| io_failure(&shown, &failure);
     let block_size = block_size(args, &medium, &shown)?;
+    let medium = match size {
+        Some(size) => lengthened(medium, path, size, block_size, access(args))?,
+        None => medium,
+    };
     let bytes = medium.length_now().map_err(failed)?;
     if let Some(size) = size.filter(|size| *size != bytes) {
-        if bytes != 0 || medium.is_device() {
-            return Err(Failure::Refused(format!("{shown} has {bytes} bytes, not the {size} of --size. Nothing was changed.")));
-        }
-        room_for(path, size, block_size, access(args))?;
-        match medium.is_dry() {
-            true => medium = Medium::blank(size, access(args))?,
-            false => medium.file().set_len(size).map_err(failed)?,
-        }
+        return Err(Failure::Refused(format!("{shown} has {bytes} bytes, not the {size} of --size. Nothing was changed.")));
     }
     if !args.has("force") {
         drops_no_slot(&medium, &shown, block_size)?;
@@ -85,6 +82,19 @@ fn laid(args: &Args, mut medium: Medium, path: &Path, size: Option<u64>, guid: O
     let card = lay_on(medium, path, block_size, guid)?;
     out.changed = true;
     finish_lay(&card, &shown, out)
+}
+
+/// An empty file with the length that was asked for, if a card has room in it; any other as it is.
+pub fn lengthened(medium: Medium, path: &Path, size: u64, block_size: BlockSize, access: Access) -> Outcome<Medium> {
+    let failed = |failure: io::Error| io_failure(&path.display().to_string(), &failure);
+    if medium.length_now().map_err(failed)? != 0 || medium.is_device() {
+        return Ok(medium);
+    }
+    room_for(path, size, block_size, access)?;
+    match medium.is_dry() {
+        true => Medium::blank(size, access),
+        false => medium.file().set_len(size).map(|()| medium).map_err(failed),
+    }
 }
 
 /// Whether a file of so many bytes has room for a card, which the library says of as many zeros.
