@@ -26,15 +26,15 @@ ghost use mathlib.Core.List.{List};
 ghost use Prim.Native.Nat.{ℕ};
 ghost use Rattle.units.specs.Meanings.{cardMeans};
 ghost use Rattle.tables.specs.Check.{checkAnswer};
-ghost use Rattle.card.specs.Calls.{clearOutcome, layOutcome, placeAnswer, putOutcome};
-ghost use Rattle.windows.specs.Windows.{WindowEnds, windowAnswer, windowOutcome};
+ghost use Rattle.card.specs.Calls.{placeAnswer};
+ghost use Rattle.windows.specs.Windows.{WindowEnds, clearIn, layIn, putIn, windowAnswer, windowOutcome};
 ghost use Rattle.partition.specs.Array.{readingOf};
 ghost use Rattle.listing.specs.Listing.{countAnswer, nextAnswer, nthAnswer, slotRead};
 ghost use Rattle.listing.specs.Meanings.{cardCountMeans, cardNextMeans, nthReading, slotMeans, usedMeans};
-ghost use Rattle.ground.specs.Answers.{RowsEnd, runCountMeans};
+ghost use Rattle.ground.specs.Answers.{runCountMeans};
 ghost use Rattle.card.specs.Meanings.{spotMeans};
 ghost use Rattle.slot_map.specs.Map.{madeAnswer, madeMeans};
-ghost use Rattle.windows_listing.specs.Ground.{groundIn};
+ghost use Rattle.windows_listing.specs.Ground.{GroundEnds};
 ghost use Rattle.partition.specs.Meanings.{countMeans, nextMeans, readMeans};
 ghost use Rattle.reader.specs.Reader.{readerCount, readerNext, readerSlot, sideAnswer};
 ghost use Rattle.reader.specs.Meanings.{copyMeans};
@@ -50,7 +50,7 @@ pub fn check<'a>(head: &'a [u8], tail: &'a [u8], blocks: u64, b: u64) -> CardVer
 }
 
 pub fn lay(head: &mut [u8], tail: &mut [u8], blocks: u64, b: u64, guid: Guid) -> CardVerdict
-    ensures { λ r. ⌜ WindowEnds (windowOutcome b blocks (now (head .entry)) (now (tail .entry)) (λ (xs : List ℕ). layOutcome b xs guid)) (cardMeans r) (now (head .exit)) (now (tail .exit)) ⌝ }
+    ensures { λ r. ⌜ WindowEnds (layIn b blocks (now (head .entry)) (now (tail .entry)) guid) (cardMeans r) (now (head .exit)) (now (tail .exit)) ⌝ }
 {
     windows::lay(head, tail, blocks, b, guid)
 }
@@ -63,13 +63,13 @@ pub fn put(
     slot: Slot,
     p: Partition,
 ) -> CardVerdict
-    ensures { λ r. ⌜ WindowEnds (windowOutcome b blocks (now (head .entry)) (now (tail .entry)) (λ (xs : List ℕ). putOutcome b xs (slot .0) p)) (cardMeans r) (now (head .exit)) (now (tail .exit)) ⌝ }
+    ensures { λ r. ⌜ WindowEnds (putIn b blocks (now (head .entry)) (now (tail .entry)) (slot .0) p) (cardMeans r) (now (head .exit)) (now (tail .exit)) ⌝ }
 {
     windows::put(head, tail, blocks, b, slot, p)
 }
 
 pub fn clear(head: &mut [u8], tail: &mut [u8], blocks: u64, b: u64, slot: Slot) -> CardVerdict
-    ensures { λ r. ⌜ WindowEnds (windowOutcome b blocks (now (head .entry)) (now (tail .entry)) (λ (xs : List ℕ). clearOutcome b xs (slot .0))) (cardMeans r) (now (head .exit)) (now (tail .exit)) ⌝ }
+    ensures { λ r. ⌜ WindowEnds (clearIn b blocks (now (head .entry)) (now (tail .entry)) (slot .0)) (cardMeans r) (now (head .exit)) (now (tail .exit)) ⌝ }
 {
     windows::clear(head, tail, blocks, b, slot)
 }
@@ -106,7 +106,7 @@ pub fn free_runs<'a>(
     starts: &mut [u64],
     lengths: &mut [u64],
 ) -> RunCount
-    ensures { λ r. ⌜ RowsEnd (groundIn b blocks (now (head .entry)) (now (tail .entry)) (now (starts .entry)) (now (lengths .entry))) (runCountMeans r) (now (starts .exit)) (now (lengths .exit)) ⌝ }
+    ensures { λ r. ⌜ GroundEnds b blocks (now (head .entry)) (now (tail .entry)) (now (starts .entry)) (now (lengths .entry)) (runCountMeans r) (now (starts .exit)) (now (lengths .exit)) ⌝ }
 {
     windows_listing::free_runs(head, tail, blocks, b, starts, lengths)
 }

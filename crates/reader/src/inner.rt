@@ -70,7 +70,8 @@ pub fn choose_copy<'a>(
 ) -> Choice
     requires { ⌜ Rows 16 (now t) ⌝ }
     requires { ⌜ (roomCheck b len .number ≡ 0) × (length (now front) ≡ b + 16384) × (length (now back) ≡ b + 16384) ⌝ }
-    ensures { λ r. ⌜ (r .number ≡ chosenNumber b len (copies b (now (front .entry)) (now (back .entry)))) × (r .back ≡ takesBack b len (copies b (now (front .entry)) (now (back .entry)))) ⌝ }
+    ensures { λ r. ⌜ r .number ≡ chosenNumber b len (copies b (now (front .entry)) (now (back .entry))) ⌝ }
+    ensures { λ r. ⌜ r .back ≡ takesBack b len (copies b (now (front .entry)) (now (back .entry))) ⌝ }
 {
     if copy_passes(t, front, len, b, false) {
         return Choice {

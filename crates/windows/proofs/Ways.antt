@@ -58,6 +58,15 @@ pub length-wrong : (B h k : ℕ) → eqb h (headLong B) && eqb k (tailLong B) �
 unfolding lengthCheck
 length-wrong B h k e = rw e
 
+-- of two tests the first number that is not 0
+pub in-order : (w l : Why) {f m : ℕ} → f ≡ w .number → m ≡ l .number → ifZero f m f ≡ orElse w l .number
+unfolding orElse
+in-order w l {m} p q = ap (λ (k : ℕ). ifZero k m k) p ∙ ap (λ (k : ℕ). ifZero (w .number) k (w .number)) q ∙ by (w .number)
+  where
+    by : (n : ℕ) → ifZero n (l .number) (w .number) ≡ ifZero n l w .number
+    by zero = refl
+    by (suc n) = refl
+
 module _ (B N h k : ℕ) {g : Bool} (e : g ≡ goodSize B) where
   pub window-size : not g ≡ true → _≡_ {A = ℕ} 1 (windowCheck B N h k .number)
   unfolding windowCheck
@@ -68,14 +77,9 @@ module _ (B N h k : ℕ) {g : Bool} (e : g ≡ goodSize B) where
     unfolding windowCheck
     window-over p = number-of {f = plain 3} (on (plain 1) (ap not (sym e) ∙ q) (here _ refl (le-leb (2 ^ 64) (N * B) p)))
 
-    module _ (p : N * B < 2 ^ 64) {r : ℕ} (w : r ≡ roomCheck B (N * B) .number) where
-      pub window-room : (r ≡ 0 → ⊥) → r ≡ windowCheck B N h k .number
-      unfolding windowCheck
-      window-room d = w ∙ number-of (on (plain 1) (ap not (sym e) ∙ q) (on (plain 3) (lt-leb (2 ^ 64) (N * B) p) (found _ refl (λ z. d (w ∙ z)))))
-
-      pub window-length : r ≡ 0 → {l : ℕ} → l ≡ lengthCheck B h k .number → l ≡ windowCheck B N h k .number
-      unfolding windowCheck
-      window-length z m = m ∙ number-of (on (plain 1) (ap not (sym e) ∙ q) (on (plain 3) (lt-leb (2 ^ 64) (N * B) p) (past {f = roomCheck B (N * B)} refl (sym w ∙ z) refl)))
+    pub window-last : N * B < 2 ^ 64 → {r l : ℕ} → r ≡ roomCheck B (N * B) .number → l ≡ lengthCheck B h k .number → ifZero r l r ≡ windowCheck B N h k .number
+    unfolding windowCheck
+    window-last p w m = in-order (roomCheck B (N * B)) (lengthCheck B h k) w m ∙ number-of (on (plain 1) (ap not (sym e) ∙ q) (on (plain 3) (lt-leb (2 ^ 64) (N * B) p) refl))
 
 -- a refusal that has a name, as each kind of answer tells it
 pub told-verdict : (w : Why) → Named w → {f : Why} → f ≡ w → (f .number ≡ 0 → ⊥) → cardMeans (verdictOf f) ≡ refused f

@@ -7,14 +7,17 @@ use mathlib.Core.List.{List, _++_}
 use Prim.Native.Nat.{ℕ, _+_, _*_, _-_, _^_}
 use lib.Dec.{eqb, leb}
 use lib.ListN.{length}
+use Rattle.units.specs.declared.Guid.{Guid}
 use Rattle.units.specs.declared.why.Why.{Why}
 use Rattle.units.specs.Answer.{Answer, refused, Outcome, plain, when, orElse, ifZero}
 use Rattle.units.specs.Bytes.{part}
 use Rattle.units.specs.Places.{goodSize}
+use Rattle.partition.specs.declared.Partition.{Partition}
 use Rattle.tables.specs.Places.{backArray}
 use Rattle.tables.specs.Lens.{Tables, copies}
 use Rattle.tables.specs.Entries.{zeros}
 use Rattle.tables.specs.Check.{roomCheck}
+use Rattle.card.specs.Calls.{layOutcome, putOutcome, clearOutcome, changed}
 
 -- how long the windows are: blocks 0 to A + 1, which are block 0 and the front table; and the last A + 1 blocks, the back table
 abbrev pub headLong : ℕ → ℕ
@@ -76,6 +79,16 @@ windowedBy w B N head tail f =
 abbrev pub windowOutcome : {A : Type 0} → ℕ → ℕ → List ℕ → List ℕ → (List ℕ → Outcome (Answer A)) → Windowed (Answer A)
 windowOutcome B N head tail f = windowedBy (windowCheck B N (length head) (length tail)) B N head tail f
 
+-- lay, put and clear
+abbrev pub layIn : ℕ → ℕ → List ℕ → List ℕ → Guid → Windowed (Answer Unit)
+layIn B N head tail g = windowOutcome B N head tail (λ (xs : List ℕ). layOutcome B xs g)
+
+abbrev pub putIn : ℕ → ℕ → List ℕ → List ℕ → ℕ → Partition → Windowed (Answer Unit)
+putIn B N head tail s p = windowOutcome B N head tail (λ (xs : List ℕ). putOutcome B xs s p)
+
+abbrev pub clearIn : ℕ → ℕ → List ℕ → List ℕ → ℕ → Windowed (Answer Unit)
+clearIn B N head tail s = windowOutcome B N head tail (λ (xs : List ℕ). clearOutcome B xs s)
+
 -- a call ends so: its answer and both windows at exit are those of the outcome
 pub record WindowEnds {A : Type 0} (o : Windowed A) (r : A) (head tail : List ℕ) : Type 0 where
   pub answer : r ≡ o .answer
@@ -91,3 +104,7 @@ window-unique p q = (p .answer ∙ sym (q .answer), p .front ∙ sym (q .front),
 -- what refuses a call on windows that tests g of the card's length and of the tables
 abbrev pub windowWhy : ℕ → ℕ → List ℕ → List ℕ → (ℕ → Tables → Why) → Why
 windowWhy B N head tail g = orElse (windowCheck B N (length head) (length tail)) (g (N * B) (windowTables B head tail))
+
+-- the tables in the windows of a card of n bytes, with a slot changed
+abbrev pub changedIn : ℕ → ℕ → List ℕ → List ℕ → ℕ → List ℕ → Tables
+changedIn B n head tail s e = changed B n (windowTables B head tail) s e

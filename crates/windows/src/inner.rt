@@ -11,7 +11,7 @@ ghost use mathlib.Core.Bool.{false};
 ghost use Prim.Native.Nat.{ℕ, _+_, _*_, _-_, _≤_};
 ghost use lib.ListN.{length};
 ghost use lib.Seq.{sets};
-ghost use Rattle.units.specs.Answer.{plain};
+ghost use Rattle.units.specs.Answer.{plain, ifZero};
 ghost use Rattle.units.specs.Guids.{guidBytes};
 ghost use Rattle.crc32.specs.Rows.{Rows};
 ghost use Rattle.tables.specs.Places.{blocks};
@@ -19,8 +19,8 @@ ghost use Rattle.tables.specs.Lens.{Front, Back, Tables, copyBytes};
 ghost use Rattle.tables.specs.Entries.{zeros};
 ghost use Rattle.tables.specs.Headers.{cardOf};
 ghost use Rattle.tables.specs.Check.{roomCheck, check, slotCheck, badSlot};
-ghost use Rattle.card.specs.Calls.{mbr, putCheck, changed};
-ghost use Rattle.windows.specs.Windows.{headLong, tailLong, windowTables, lengthCheck, windowCheck, windowWhy};
+ghost use Rattle.card.specs.Calls.{mbr, putCheck};
+ghost use Rattle.windows.specs.Windows.{headLong, tailLong, windowTables, lengthCheck, windowCheck, windowWhy, changedIn};
 
 // The blocks times b pass 64 bits.
 const OVERFLOW: u32 = 3;
@@ -40,6 +40,16 @@ pub fn length_check(head: usize, tail: usize, b: u64) -> u32
     WINDOW_LENGTH
 }
 
+// The first of two numbers that refuses: the second where the first is 0.
+pub fn first_of(one: u32, two: u32) -> u32
+    ensures { λ r. ⌜ r ≡ ifZero one two one ⌝ }
+{
+    if one != 0 {
+        return one;
+    }
+    two
+}
+
 // The number that refuses windows by their lengths and the stated blocks, or 0: 1 bad block size, 3 the blocks pass 64 bits, 8 and 10 no room, 32 a window's length.
 pub fn window_check(head: usize, tail: usize, blocks: u64, b: u64) -> u32
     ensures { λ r. ⌜ r ≡ windowCheck b blocks head tail .number ⌝ }
@@ -51,10 +61,8 @@ pub fn window_check(head: usize, tail: usize, blocks: u64, b: u64) -> u32
         return OVERFLOW;
     }
     let room = tables::inner::room_check((blocks * b) as usize, b);
-    if room != 0 {
-        return room;
-    }
-    length_check(head, tail, b)
+    let length = length_check(head, tail, b);
+    first_of(room, length)
 }
 
 // A refusal by a number that names nothing.
@@ -79,7 +87,8 @@ pub fn check_in<'a>(t: &'a [u32; 4096], head: &'a [u8], tail: &'a [u8], blocks: 
     }
     let size = b as usize;
     let len = (blocks * b) as usize;
-    checking::inner::copies_check(t, &head[size..size + (size + 16384)], tail, len, b)
+    let front = &head[size..size + (size + 16384)];
+    checking::inner::copies_check(t, front, tail, len, b)
 }
 
 // 18 (bad slot) after the check: the tests of a call on one slot.
@@ -141,8 +150,8 @@ pub fn change<'a>(
     requires { ⌜ Rows 16 (now t) ⌝ }
     requires { ⌜ (length (now head) ≡ headLong b) × (length (now tail) ≡ tailLong b) × (check b len (windowTables b (now head) (now tail)) .number ≡ 0) ⌝ }
     requires { ⌜ (badSlot (slot .0) ≡ false) × (length (now e) ≡ 128) ⌝ }
-    ensures { λ _. ⌜ now (head .exit) ≡ sets (now (head .entry)) b (copyBytes Front (changed b len (windowTables b (now (head .entry)) (now (tail .entry))) (slot .0) (now (e .entry)) .front)) ⌝ }
-    ensures { λ _. ⌜ now (tail .exit) ≡ copyBytes Back (changed b len (windowTables b (now (head .entry)) (now (tail .entry))) (slot .0) (now (e .entry)) .back) ⌝ }
+    ensures { λ _. ⌜ now (head .exit) ≡ sets (now (head .entry)) b (copyBytes Front (changedIn b len (now (head .entry)) (now (tail .entry)) (slot .0) (now (e .entry)) .front)) ⌝ }
+    ensures { λ _. ⌜ now (tail .exit) ≡ copyBytes Back (changedIn b len (now (head .entry)) (now (tail .entry)) (slot .0) (now (e .entry)) .back) ⌝ }
 {
     let guid = card::changing::front_guid(head, b);
     let parts = card::changing::front_sum(t, head, len, b, slot, e);

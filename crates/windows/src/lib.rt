@@ -7,12 +7,9 @@ use units::CardVerdict;
 use units::Guid;
 use units::Slot;
 ghost use mathlib.Core.Path.{_≡_};
-ghost use mathlib.Core.List.{List};
-ghost use Prim.Native.Nat.{ℕ};
 ghost use Rattle.units.specs.Meanings.{cardMeans};
 ghost use Rattle.tables.specs.Check.{checkAnswer};
-ghost use Rattle.card.specs.Calls.{layOutcome, putOutcome, clearOutcome};
-ghost use Rattle.windows.specs.Windows.{windowAnswer, windowOutcome, WindowEnds};
+ghost use Rattle.windows.specs.Windows.{windowAnswer, WindowEnds, layIn, putIn, clearIn};
 
 // The card check: 1, 3 the blocks pass 64 bits, 8, 10, 32 a window's length, and then the card check's numbers.
 pub fn check<'a>(head: &'a [u8], tail: &'a [u8], blocks: u64, b: u64) -> CardVerdict
@@ -25,7 +22,7 @@ pub fn check<'a>(head: &'a [u8], tail: &'a [u8], blocks: u64, b: u64) -> CardVer
 
 // Lays an empty card for a disk GUID: 1, 3, 8, 10, 32.
 pub fn lay(head: &mut [u8], tail: &mut [u8], blocks: u64, b: u64, guid: Guid) -> CardVerdict
-    ensures { λ r. ⌜ WindowEnds (windowOutcome b blocks (now (head .entry)) (now (tail .entry)) (λ (xs : List ℕ). layOutcome b xs guid)) (cardMeans r) (now (head .exit)) (now (tail .exit)) ⌝ }
+    ensures { λ r. ⌜ WindowEnds (layIn b blocks (now (head .entry)) (now (tail .entry)) guid) (cardMeans r) (now (head .exit)) (now (tail .exit)) ⌝ }
 {
     let wrong = inner::window_check(head.len(), tail.len(), blocks, b);
     if wrong != 0 {
@@ -45,7 +42,7 @@ pub fn put(
     slot: Slot,
     p: Partition,
 ) -> CardVerdict
-    ensures { λ r. ⌜ WindowEnds (windowOutcome b blocks (now (head .entry)) (now (tail .entry)) (λ (xs : List ℕ). putOutcome b xs (slot .0) p)) (cardMeans r) (now (head .exit)) (now (tail .exit)) ⌝ }
+    ensures { λ r. ⌜ WindowEnds (putIn b blocks (now (head .entry)) (now (tail .entry)) (slot .0) p) (cardMeans r) (now (head .exit)) (now (tail .exit)) ⌝ }
 {
     let e = partition::inner::tidied_bytes(p);
     let reserved = p.flags.reserved;
@@ -60,7 +57,7 @@ pub fn put(
 
 // Clears a slot in both tables: the check's numbers, and then 18.
 pub fn clear(head: &mut [u8], tail: &mut [u8], blocks: u64, b: u64, slot: Slot) -> CardVerdict
-    ensures { λ r. ⌜ WindowEnds (windowOutcome b blocks (now (head .entry)) (now (tail .entry)) (λ (xs : List ℕ). clearOutcome b xs (slot .0))) (cardMeans r) (now (head .exit)) (now (tail .exit)) ⌝ }
+    ensures { λ r. ⌜ WindowEnds (clearIn b blocks (now (head .entry)) (now (tail .entry)) (slot .0)) (cardMeans r) (now (head .exit)) (now (tail .exit)) ⌝ }
 {
     let t = crc32::inner::table();
     let found = inner::slot_check_in(&t, head, tail, blocks, b, slot);

@@ -1,4 +1,5 @@
-// The listing of a card by two lent windows: how many slots are used, the next used slot, what a slot holds, and the used slots by their order; the free ground, the slot map, and where a slot's bytes stand.
+// The listing of a card by two lent windows: how many slots are used, the next used slot, what a slot holds, and the used slots by their order;
+// the free ground, the slot map, and where a slot's bytes stand.
 // Document 02, 10/13, and beyond it the free ground, the map and the place. Each call has the leaves of the call on an image, lent the head's front table.
 pub mod inner; // inner.rt: the tests of a used slot, and the plan of a listing
 
@@ -19,12 +20,12 @@ ghost use Prim.Native.Nat.{ℕ};
 ghost use Rattle.partition.specs.Array.{readingOf};
 ghost use Rattle.listing.specs.Listing.{countAnswer, nextAnswer, slotRead, nthAnswer};
 ghost use Rattle.listing.specs.Meanings.{cardCountMeans, cardNextMeans, slotMeans, usedMeans, nthReading};
-ghost use Rattle.ground.specs.Answers.{RowsEnd, runCountMeans};
+ghost use Rattle.ground.specs.Answers.{runCountMeans};
 ghost use Rattle.card.specs.Calls.{placeAnswer};
 ghost use Rattle.card.specs.Meanings.{spotMeans};
 ghost use Rattle.slot_map.specs.Map.{madeMeans, madeAnswer};
 ghost use Rattle.windows.specs.Windows.{windowAnswer};
-ghost use Rattle.windows_listing.specs.Ground.{groundIn};
+ghost use Rattle.windows_listing.specs.Ground.{GroundEnds};
 
 // How many slots are used: 1, 3, 8, 10, 32, and then the card check's numbers, as in each call below.
 pub fn count_used<'a>(head: &'a [u8], tail: &'a [u8], blocks: u64, b: u64) -> CardCount
@@ -108,7 +109,7 @@ pub fn free_runs<'a>(
     starts: &mut [u64],
     lengths: &mut [u64],
 ) -> RunCount
-    ensures { λ r. ⌜ RowsEnd (groundIn b blocks (now (head .entry)) (now (tail .entry)) (now (starts .entry)) (now (lengths .entry))) (runCountMeans r) (now (starts .exit)) (now (lengths .exit)) ⌝ }
+    ensures { λ r. ⌜ GroundEnds b blocks (now (head .entry)) (now (tail .entry)) (now (starts .entry)) (now (lengths .entry)) (runCountMeans r) (now (starts .exit)) (now (lengths .exit)) ⌝ }
 {
     let t = crc32::inner::table();
     let found = windows::inner::check_in(&t, head, tail, blocks, b);

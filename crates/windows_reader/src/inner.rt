@@ -50,7 +50,8 @@ pub fn plan_in<'a>(head: &'a [u8], tail: &'a [u8], blocks: u64, b: u64) -> Plan
     if found.number != 0 {
         return Plan::refused_plainly(found.refusal());
     }
-    Plan::listing(array_of(head, tail, b, found.back), BytePlace(0), 128)
+    let back = found.back;
+    Plan::listing(array_of(head, tail, b, back), BytePlace(0), 128)
 }
 
 // The plan of the list of a part: 2 where it is shorter than an array.

@@ -35,8 +35,8 @@ pub fn good_copy<'a>(head: &'a [u8], tail: &'a [u8], blocks: u64, b: u64) -> Goo
     GoodCopy::Front
 }
 
-// That table's array, 16,384 bytes of the head or of the tail, no copy made; an empty part of the head where `good_copy` refuses. What it holds and where it starts are both promised, since the two arrays may
-// hold the same.
+// That table's array, 16,384 bytes of the head or of the tail, no copy made; an empty part of the head where `good_copy` refuses.
+// What it holds and where it starts are both promised, since the two arrays may hold the same.
 pub fn good_part<'a>(head: &'a [u8], tail: &'a [u8], blocks: u64, b: u64) -> &'a [u8]
     ensures { λ r. ⌜ now r ≡ goodPart b blocks (now (head .entry)) (now (tail .entry)) ⌝ }
     ensures { λ r. ⌜ r .ptr ≡ goodFrom b blocks (now (head .entry)) (now (tail .entry)) (head .entry .ptr) (tail .entry .ptr) ⌝ }
@@ -45,7 +45,8 @@ pub fn good_part<'a>(head: &'a [u8], tail: &'a [u8], blocks: u64, b: u64) -> &'a
     if found.number != 0 {
         return &head[0..0];
     }
-    inner::array_of(head, tail, b, found.back)
+    let back = found.back;
+    inner::array_of(head, tail, b, back)
 }
 
 // How many slots of that table are used: 1, 3, 8, 10, 32, 27.

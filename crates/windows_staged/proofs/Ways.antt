@@ -15,7 +15,7 @@ use Rattle.units.specs.Bytes.{part}
 use Rattle.units.specs.Meanings.{cardMeans, verdictOf}
 use Rattle.units.specs.Places.{goodSize}
 use Rattle.units.specs.Refusals.{whyAt, reasonOf}
-use Rattle.units.proofs.Chains.{number-of, found, past, else-first, else-second, Bare, bare-else, Named, named-else, settle-accepted}
+use Rattle.units.proofs.Chains.{number-of, found, else-first, else-second, Bare, bare-else, Named, named-else, settle-accepted}
 use Rattle.units.proofs.Lists.{length-part, part-part}
 use Rattle.tables.specs.Places.{arrayBlocks, backArray}
 use Rattle.tables.specs.Lens.{Side, Front, Back, Tables, sideOf, other, headerIn, arrayIn, tables, tablesAt}
@@ -40,7 +40,7 @@ use Rattle.staged.proofs.Ways.{named-next, bare-next, named-next-repair, bare-n
 use Rattle.staged.proofs.Leads.{Leads, next-leads, LeadsRepair, repair-leads, leads-store}
 use Rattle.windows.specs.Windows.{headLong, tailLong, headIn, tailIn, whole, windowTables, lengthCheck, Windowed, inWindows, windowedBy, WindowEnds}
 use Rattle.windows.proofs.Whole.{Fits, long-by, back-ends, length-whole, head-whole, tail-whole, tables-whole, store-head, store-tail}
-use Rattle.windows.proofs.Ways.{bare-length, named-length, told-verdict, at-whole, if-zero, if-not}
+use Rattle.windows.proofs.Ways.{in-order, bare-length, named-length, told-verdict, at-whole, if-zero, if-not}
 use Rattle.windows_reader.specs.Parts.{arrayOf}
 use Rattle.windows_staged.specs.Stages.{nextWhy, nextRepairWhy, nextWindowed, nextRepairWindowed, windowBeside, headWith, tailWith, Stored, StageStored, ZerosStored, BlockStored, HeaderStored, RepairStored}
 
@@ -65,9 +65,6 @@ stored-same e = let z : _≡_ {A = ℕ} 1 0 = ap (λ (b : Bool). pick b 1 0) e i
 first-number : (w l : Why) {f : ℕ} → f ≡ w .number → (f ≡ 0 → ⊥) → f ≡ orElse w l .number
 first-number w l e d = e ∙ number-of (found {f = w} l refl (λ z. d (e ∙ z)))
 
-second-number : (w l : Why) {f m : ℕ} → f ≡ w .number → f ≡ 0 → m ≡ l .number → m ≡ orElse w l .number
-second-number w l e z q = q ∙ number-of (past {f = w} refl (sym e ∙ z) refl)
-
 third-false : (a b c : Bool) → a && (b && (false && c)) ≡ false
 third-false true true c = refl
 third-false true false c = refl
@@ -82,9 +79,9 @@ module _ (B N h t k : ℕ) (u : Update) where
   unfolding nextWhy
   later-first e d = first-number (nextCheck B (N * B) k u) (lengthCheck B h t) e d
 
-  pub later-second : {f m : ℕ} → f ≡ nextCheck B (N * B) k u .number → f ≡ 0 → m ≡ lengthCheck B h t .number → m ≡ nextWhy B N h t k u .number
+  pub later-both : {f m : ℕ} → f ≡ nextCheck B (N * B) k u .number → m ≡ lengthCheck B h t .number → ifZero f m f ≡ nextWhy B N h t k u .number
   unfolding nextWhy
-  later-second e z q = second-number (nextCheck B (N * B) k u) (lengthCheck B h t) e z q
+  later-both e q = in-order (nextCheck B (N * B) k u) (lengthCheck B h t) e q
 
   pub later-over : {g : Bool} → g ≡ goodSize B → not g ≡ false → u .len < 2 ^ 64 → 2 ^ 64 ≤ N * B → _≡_ {A = ℕ} 26 (nextWhy B N h t k u .number)
   later-over e q a b = later-first (next-26 B (N * B) k u {l = false} e q (sym (over a b)) refl) (λ z. omega arith)
@@ -106,9 +103,9 @@ module _ (B N h t k : ℕ) (r : Repair) where
   unfolding nextRepairWhy
   repair-first e d = first-number (nextRepairCheck B (N * B) k r) (lengthCheck B h t) e d
 
-  pub repair-second : {f m : ℕ} → f ≡ nextRepairCheck B (N * B) k r .number → f ≡ 0 → m ≡ lengthCheck B h t .number → m ≡ nextRepairWhy B N h t k r .number
+  pub repair-both : {f m : ℕ} → f ≡ nextRepairCheck B (N * B) k r .number → m ≡ lengthCheck B h t .number → ifZero f m f ≡ nextRepairWhy B N h t k r .number
   unfolding nextRepairWhy
-  repair-second e z q = second-number (nextRepairCheck B (N * B) k r) (lengthCheck B h t) e z q
+  repair-both e q = in-order (nextRepairCheck B (N * B) k r) (lengthCheck B h t) e q
 
   pub repair-over : {g : Bool} → g ≡ goodSize B → not g ≡ false → r .len < 2 ^ 64 → 2 ^ 64 ≤ N * B → _≡_ {A = ℕ} 26 (nextRepairWhy B N h t k r .number)
   repair-over e q a b = repair-first (next-repair-26 B (N * B) k r {l = false} e q (sym (over-repair a b)) refl) (λ z. omega arith)

@@ -45,10 +45,8 @@ pub fn next_check(head: usize, tail: usize, blocks: u64, b: u64, k: u32, u: Upda
         return WRONG_STAGE;
     }
     let found = staged::inner::next_check((blocks * b) as usize, b, k, u);
-    if found != 0 {
-        return found;
-    }
-    windows::inner::length_check(head, tail, b)
+    let length = windows::inner::length_check(head, tail, b);
+    windows::inner::first_of(found, length)
 }
 
 // What stage one of a repair fixes, where the good table is on a side.
@@ -140,11 +138,9 @@ pub fn next_repair_check(head: usize, tail: usize, blocks: u64, b: u64, k: u32, 
     if 0xFFFF_FFFF_FFFF_FFFF / b < blocks {
         return WRONG_STAGE;
     }
-    let found = staged::inner::next_repair_check((blocks * b) as usize, b, k, r);
-    if found != 0 {
-        return found;
-    }
-    windows::inner::length_check(head, tail, b)
+    let wrong = staged::inner::next_repair_check((blocks * b) as usize, b, k, r);
+    let length = windows::inner::length_check(head, tail, b);
+    windows::inner::first_of(wrong, length)
 }
 
 // Stage one of an update, once the check has accepted the windows and the slot: what it fixes, and its store.

@@ -1,5 +1,5 @@
-// Put, clear and repair in stages of one block store each, on two lent windows. Document 02, 10/13 and 6/13: each stage stores to one block of the head or of the tail, which a host then has the device
-// store before it makes the next one. What each stage stores and answers is that of `staged`, and the windows' own numbers are in specs/Stages.
+// Put, clear and repair in stages of one block store each, on two lent windows. Document 02, 10/13 and 6/13: each stage stores to one block of the head or of the tail,
+// which a host then has the device store before it makes the next one. What each stage stores and answers is that of `staged`, and the windows' own numbers are in specs/Stages.
 pub mod inner; // inner.rt: each store, and the test of a later stage's state
 
 use partition::Partition;

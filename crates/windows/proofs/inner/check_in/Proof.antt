@@ -27,14 +27,14 @@ fits c = let a = c .before .before .before .before .args in fits-by (a .b) (a .b
 mul-len : tie.Need-mul-len
 mul-len c = omega (arith, fits c .width)
 
-add-copies-check : tie.Need-add-copies-check
-add-copies-check c = omega (arith, fits c .room .most)
+add-front : tie.Need-add-front
+add-front c = omega (arith, fits c .room .most)
 
-add-copies-check-2 : tie.Need-add-copies-check-2
-add-copies-check-2 c = omega (arith, fits c .room .most)
+add-front-2 : tie.Need-add-front-2
+add-front-2 c = omega (arith, fits c .room .most)
 
-part-copies-check-end : tie.Need-part-copies-check-end
-part-copies-check-end c = omega (arith, fits c .head-long)
+part-front-end : tie.Need-part-front-end
+part-front-end c = omega (arith, fits c .head-long)
 
 copies-check-requires : tie.Need-copies-check-requires
 copies-check-requires c κs =
@@ -52,4 +52,4 @@ returns-2 c =
 pub check-in-spec : {M : Type 1} → statement M
 check-in-spec =
     tie.close
-    (tie.spec (λ c κs. search needs) (λ c κs. search needs) returns mul-len add-copies-check add-copies-check-2 (λ c. search needs) (λ c. search needs) part-copies-check-end copies-check-requires returns-2)
+    (tie.spec (λ c κs. search needs) (λ c κs. search needs) returns mul-len add-front add-front-2 (λ c. search needs) (λ c. search needs) part-front-end copies-check-requires returns-2)

@@ -1,9 +1,10 @@
 -- `windows::inner::window_check` meets its contract: the tests are those of the definition, in its order. Assumes nothing.
+use mathlib.Core.Path.{_∙_}
 use Prim.Native.Nat.{_*_, _^_, _<_}
 use native.Mathlib.Omega.{arith}
 use borrow.Author.Needs.{needs}
 use Rattle.units.proofs.Laws.{size-yes, size-past, product, product-not}
-use Rattle.windows.proofs.Ways.{window-size, window-over, window-room, window-length}
+use Rattle.windows.proofs.Ways.{window-size, window-over, window-last}
 use Rattle.windows.proofs.inner.window_check.Statement.{statement}
 use Rattle.windows.proofs.inner.window_check.Tie as tie
 
@@ -25,16 +26,13 @@ width c = product _ _ (div-if2 (c .before)) (c .if2 .left)
 mul-room-check : tie.Need-mul-room-check
 mul-room-check c = omega (arith, width c)
 
-returns-3 : tie.Need-returns-3
-returns-3 c = let k = c .before .before in window-room _ _ _ _ (k .before .before .good-block-size .ensures) (k .before .if1 .left) (width k) (c .before .room-check .ensures) (c .if3 .taken)
-
 length-check-requires : tie.Need-length-check-requires
-length-check-requires c κs = size-past _ (c .before .before .before .before .good-block-size .ensures) (c .before .before .before .if1 .left) .1
+length-check-requires c κs = size-past _ (c .before .before .before .good-block-size .ensures) (c .before .before .if1 .left) .1
 
-returns-4 : tie.Need-returns-4
-returns-4 c =
+returns-3 : tie.Need-returns-3
+returns-3 c =
     let k = c .before .before .before in
-    window-length _ _ _ _ (k .before .before .good-block-size .ensures) (k .before .if1 .left) (width k) (c .before .before .room-check .ensures) (c .before .if3 .left) (c .length-check .ensures)
+    c .first-of .ensures ∙ window-last _ _ _ _ (k .before .before .good-block-size .ensures) (k .before .if1 .left) (width k) (c .before .before .room-check .ensures) (c .before .length-check .ensures)
 
 pub window-check-spec : {M : Type 1} → statement M
-window-check-spec = tie.close (tie.spec (λ c κs. search needs) returns div-if2 returns-2 mul-room-check (λ c κs. search needs) returns-3 length-check-requires returns-4)
+window-check-spec = tie.close (tie.spec (λ c κs. search needs) returns div-if2 returns-2 mul-room-check (λ c κs. search needs) length-check-requires (λ c κs. search needs) returns-3)

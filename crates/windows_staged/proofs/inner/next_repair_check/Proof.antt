@@ -1,10 +1,11 @@
 -- `windows_staged::inner::next_repair_check` meets its contract: the tests are those of the definition, in its order. Assumes nothing.
+use mathlib.Core.Path.{_∙_}
 use Prim.Native.Nat.{_*_, _^_, _<_}
 use native.Mathlib.Omega.{arith}
 use borrow.Author.Needs.{needs}
 use Rattle.units.proofs.Laws.{size-yes, size-past, product, product-not}
 use Rattle.staged.proofs.Ways.{next-repair-1}
-use Rattle.windows_staged.proofs.Ways.{repair-first, repair-second, repair-over}
+use Rattle.windows_staged.proofs.Ways.{repair-first, repair-both, repair-over}
 use Rattle.windows_staged.proofs.inner.next_repair_check.Statement.{statement}
 use Rattle.windows_staged.proofs.inner.next_repair_check.Tie as tie
 
@@ -27,14 +28,13 @@ width c = product _ _ (div-if2 (c .before)) (c .if2 .left)
 mul-next-repair-check : tie.Need-mul-next-repair-check
 mul-next-repair-check c = omega (arith, width c)
 
-returns-3 : tie.Need-returns-3
-returns-3 c = let a = c .before .before .before .before .before .args in repair-first _ _ _ _ _ (a .r) (c .before .next-repair-check .ensures) (c .if3 .taken)
-
 length-check-requires : tie.Need-length-check-requires
-length-check-requires c κs = size-past _ (c .before .before .before .before .good-block-size .ensures) (c .before .before .before .if1 .left) .1
+length-check-requires c κs = size-past _ (c .before .before .before .good-block-size .ensures) (c .before .before .if1 .left) .1
 
-returns-4 : tie.Need-returns-4
-returns-4 c = let a = c .before .before .before .before .before .before .args in repair-second _ _ _ _ _ (a .r) (c .before .before .next-repair-check .ensures) (c .before .if3 .left) (c .length-check .ensures)
+returns-3 : tie.Need-returns-3
+returns-3 c =
+    let a = c .before .before .before .before .before .before .args in
+    c .first-of .ensures ∙ repair-both _ _ _ _ _ (a .r) (c .before .before .next-repair-check .ensures) (c .before .length-check .ensures)
 
 pub next-repair-check-spec : {M : Type 1} → statement M
-next-repair-check-spec = tie.close (tie.spec (λ c κs. search needs) returns div-if2 returns-2 mul-next-repair-check (λ c κs. search needs) returns-3 length-check-requires returns-4)
+next-repair-check-spec = tie.close (tie.spec (λ c κs. search needs) returns div-if2 returns-2 mul-next-repair-check (λ c κs. search needs) length-check-requires (λ c κs. search needs) returns-3)
