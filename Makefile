@@ -44,7 +44,7 @@ gate-times:
 deps:
 	@scripts/deps
 
-# Reads what rt said of the edits that must fail, and asks that each function that an edit changes was refused by itself.
+# Reads what rt said of the edits that must fail, and asks that each function that an edit changes was refused by itself, and not for its shape.
 edits:
 	@tests/edits.sh
 
