@@ -91,9 +91,9 @@ pub const COMMANDS: &[Command] = &[
     },
     Command {
         name: "repair",
-        words: "FILE",
+        words: "FILE [--force]",
         does: "gives the table that is not good what the other one has, block by block",
-        options: &[HELP, BLOCK, DRY, MOUNTED, STOP],
+        options: &[HELP, BLOCK, DRY, MOUNTED, STOP, ("force", None)],
         run: table::repair,
     },
     Command {
@@ -141,7 +141,7 @@ pub fn all() -> String {
     }
     out +=
         "\nCommands that write also take --dry-run (says block by block what would change) and --mounted (a device that is mounted is refused without it);\n";
-    out += "put, clear and repair take --stop-after K (ends after stage K, for training). -b is a block device's own size, or else 512.\n";
+    out += "put, clear and repair take --stop-after K (ends after stage K, for training); write, clear and apply take --progress. -b is a block device's own size, or else 512.\n";
     out += "Exit status: 0 done, 1 refused, 2 not understood, 3 reading or writing failed.\n";
     out
 }

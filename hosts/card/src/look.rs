@@ -6,7 +6,7 @@ use crate::opened::{block_size, Opened};
 use crate::output::Out;
 use crate::words::{self, count};
 use crate::{drawn, json, system};
-use card::{ffi, Entry, Table};
+use card::{ffi, BlockSize, Entry, Table};
 use std::path::PathBuf;
 
 /// Opens the card that the next word names, to be read.
@@ -94,8 +94,8 @@ pub fn free(mut args: Args, out: &mut Out) -> Outcome {
 pub fn show(mut args: Args, out: &mut Out) -> Outcome {
     let opened = opened(&mut args)?;
     let checked = opened.card.check();
-    let Ok(table) = opened.card.reader_copy() else {
-        return Err(Failure::Refused(format!("{}: neither table can be read: {}. [27]", opened.shown(), opened.unread_words())));
+    let Some(table) = opened.reader_table()? else {
+        return Err(Failure::Refused(format!("{}: neither table can be read: {}. [27]", opened.shown(), opened.unread_words()?)));
     };
     out.line(format!("the reader takes the {} table", name_of(table)));
     let entries: Vec<Entry> = opened.checked(opened.card.reader_list())?.collect();
@@ -103,7 +103,7 @@ pub fn show(mut args: Args, out: &mut Out) -> Outcome {
     out.line(format!("used {} of 128", entries.len()));
     match checked.err().and_then(|error| error.refused()) {
         None => out.line("the check accepts the card".to_string()),
-        Some(refused) => out.line(format!("the check refuses the card: {} [{}]", opened.check_words(refused), refused.number())),
+        Some(refused) => out.line(format!("the check refuses the card: {} [{}]", opened.check_words(refused)?, refused.number())),
     }
     Ok(())
 }
@@ -143,8 +143,13 @@ pub fn uefi(mut args: Args, out: &mut Out) -> Outcome {
             }
         }
     }
-    match refusals.len() {
-        2 => Err(Failure::Refused(format!("{shown}: no table that the second edition reads"))),
+    let other = 512 + 4096 - block_size.bytes();
+    let there = BlockSize::try_from(other).is_ok_and(|other| [Table::Front, Table::Back].iter().any(|table| card::uefi_list(image, other, *table).is_ok()));
+    match (refusals.len(), there) {
+        (2, true) => {
+            Err(Failure::Refused(format!("{shown}: no table that the second edition reads; one with blocks of {other} bytes is there: try -b {other}")))
+        }
+        (2, false) => Err(Failure::Refused(format!("{shown}: no table that the second edition reads"))),
         _ => Ok(()),
     }
 }

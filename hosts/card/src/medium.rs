@@ -35,6 +35,11 @@ pub enum Access {
 }
 
 impl Access {
+    /// Whether what is written is kept in memory.
+    pub fn is_dry(self) -> bool {
+        matches!(self, Access::Write { dry: true, .. })
+    }
+
     /// Whether bytes of the file are to be changed.
     fn writes(self) -> bool {
         matches!(self, Access::Write { dry: false, .. })
@@ -69,12 +74,10 @@ impl Medium {
 
     /// So many zero bytes, in place of a file that a dry run does not make: a file without a name, of which nothing is written.
     pub fn blank(size: u64, access: Access) -> Outcome<Medium> {
-        let path = std::env::temp_dir().join(format!("card-dry-run-{}", std::process::id()));
-        let shown = path.display().to_string();
-        let file = OpenOptions::new().read(true).write(true).create_new(true).open(&path).map_err(|failure| io_failure(&shown, &failure))?;
-        let removed = fs::remove_file(&path).and_then(|()| file.set_len(size));
-        removed.map_err(|failure| io_failure(&shown, &failure))?;
-        Ok(Medium { blank: true, ..Medium::locked(file, &shown, access)? })
+        let shown = "a file in memory";
+        let made = system::file_in_memory().and_then(|file| file.set_len(size).map(|()| file));
+        let file = made.map_err(|failure| io_failure(shown, &failure))?;
+        Ok(Medium { blank: true, ..Medium::locked(file, shown, access)? })
     }
 
     /// Whether this is such a stand-in.
@@ -86,7 +89,7 @@ impl Medium {
     pub fn locked(file: File, shown: &str, access: Access) -> Outcome<Medium> {
         let failed = |failure: io::Error| io_failure(shown, &failure);
         system::lock(&file, access.writes(), || eprintln!("card: waiting for {shown}, which another program has locked")).map_err(failed)?;
-        let dry = matches!(access, Access::Write { dry: true, .. }).then(BTreeMap::new);
+        let dry = access.is_dry().then(BTreeMap::new);
         let medium = Medium { file, place: 0, length: None, ordered: false, written: 0, blank: false, dry };
         if let Access::Write { mounted: false, .. } = access {
             if let Some(folder) = medium.mounted_at().map_err(failed)? {
@@ -103,12 +106,15 @@ impl Medium {
             return Ok(None);
         }
         let device = name_of_device(about.rdev());
-        let mounts = fs::read_to_string("/proc/self/mountinfo")?;
+        let mounts = String::from_utf8_lossy(&fs::read("/proc/self/mountinfo")?).into_owned();
         for line in mounts.lines() {
             let mut fields = line.split(' ').skip(2);
             let (Some(mounted), Some(folder)) = (fields.next(), fields.nth(1)) else { continue };
             let whole = fs::read_to_string(format!("/sys/dev/block/{mounted}/../dev")).unwrap_or_default();
-            if mounted == device || whole.trim() == device {
+            // A file system with a number of its own, as btrfs, is known by its source, behind a dash and its kind.
+            let source = line.split(" - ").nth(1).and_then(|rest| rest.split(' ').nth(1)).unwrap_or_default();
+            let same = fs::metadata(source).is_ok_and(|source| source.file_type().is_block_device() && source.rdev() == about.rdev());
+            if mounted == device || whole.trim() == device || same {
                 return Ok(Some(folder.replace("\\040", " ")));
             }
         }
@@ -144,6 +150,13 @@ impl Medium {
     pub fn in_order(mut self) -> Medium {
         self.ordered = true;
         self
+    }
+
+    /// The first bytes of the file, 1 MiB or fewer: as far as a front table goes.
+    pub fn beginning(&self) -> io::Result<Vec<u8>> {
+        let mut bytes = vec![0; self.length_now()?.min(1 << 20) as usize];
+        read_what_is_there(&self.file, &mut bytes, 0)?;
+        Ok(bytes)
     }
 
     /// How many bytes were written in all, also by a write that failed in the middle.
@@ -246,6 +259,9 @@ impl Write for Medium {
         };
         if count == 0 && !bytes.is_empty() {
             return Err(io::Error::new(io::ErrorKind::WriteZero, "the device takes no more bytes"));
+        }
+        if count > bytes.len() {
+            return Err(io::Error::new(io::ErrorKind::InvalidData, "the system says that more bytes were written than there were"));
         }
         self.place += count as u64;
         self.written += count as u64;

@@ -2,7 +2,7 @@
 use crate::args::{number, Args};
 use crate::failure::{io_failure, system_words, Failure, Outcome};
 use crate::medium::{Access, Medium};
-use crate::words::quoted;
+use crate::words::{count, quoted};
 use card::{ffi, BlockSize, FileCard, FileError, Guid, Name, Place, Refusal, Refused, Table};
 use std::path::{Path, PathBuf};
 
@@ -13,10 +13,16 @@ pub struct Opened {
     writes: bool,
 }
 
-/// The block size that was asked for; else the device's own, or 512.
+/// The block size that was asked for.
+pub fn given_block_size(args: &Args) -> Outcome<Option<BlockSize>> {
+    args.value("block-size", |text| {
+        number(text).ok().and_then(|bytes: u64| BlockSize::try_from(bytes).ok()).ok_or_else(|| format!("{text} is neither 512 nor 4096"))
+    })
+}
+
+/// The same; else the device's own, or 512.
 pub fn block_size(args: &Args, medium: &Medium, shown: &str) -> Outcome<BlockSize> {
-    let known = |text: &str| number(text).ok().and_then(|bytes: u64| BlockSize::try_from(bytes).ok()).ok_or_else(|| format!("{text} is neither 512 nor 4096"));
-    if let Some(given) = args.value("block-size", known)? {
+    if let Some(given) = given_block_size(args)? {
         return Ok(given);
     }
     let own = medium.own_block_size().map_err(|failure| io_failure(shown, &failure))?.unwrap_or(512);
@@ -51,6 +57,11 @@ impl Opened {
         self.path.display().to_string()
     }
 
+    /// The path as a word of a command that the user is told to give.
+    pub fn word(&self) -> String {
+        shell_word(&self.path)
+    }
+
     /// How many bytes a block has.
     pub fn b(&self) -> u64 {
         self.card.block_size().bytes()
@@ -76,37 +87,42 @@ impl Opened {
     /// The check's refusal.
     fn check_failure(&self, refused: Refused) -> Failure {
         let left = if self.writes { ". Nothing was changed." } else { "" };
-        Failure::Refused(format!("{}: {}{left} [{}]", self.shown(), self.check_words(refused), refused.number()))
+        match self.check_words(refused) {
+            Ok(words) => Failure::Refused(format!("{}: {words}{left} [{}]", self.shown(), refused.number())),
+            Err(failure) => failure,
+        }
     }
 
     /// What the check found, and what to do next.
-    pub fn check_words(&self, refused: Refused) -> String {
+    pub fn check_words(&self, refused: Refused) -> Outcome<String> {
         self.words_of(refused, "neither table can be read: lay it anew, or read it by card uefi")
     }
 
     /// Why neither table can be read, and what might help.
-    pub fn unread_words(&self) -> String {
-        let refused = self.card.check().err().and_then(|error| error.refused());
-        refused.map_or(String::new(), |refused| self.words_of(refused, ""))
+    pub fn unread_words(&self) -> Outcome<String> {
+        match self.card.check().err().and_then(|error| error.refused()) {
+            Some(refused) => self.words_of(refused, ""),
+            None => Ok(String::new()),
+        }
     }
 
     /// The same, with what is said where nothing helps.
-    fn words_of(&self, refused: Refused, lost: &str) -> String {
+    fn words_of(&self, refused: Refused, lost: &str) -> Outcome<String> {
         let table = match refused.place {
             Some(Place::Front) => "front",
             Some(Place::Back) => "back",
-            Some(Place::DiskGuid) => return format!("the two tables have different disk GUIDs; {}", self.reader_takes()),
+            Some(Place::DiskGuid) => return Ok(format!("the two tables have different disk GUIDs; {}", self.reader_takes())),
             Some(Place::Slot(slot)) => {
                 let [front, back] = self.names(slot);
-                return format!("the two tables differ, first in slot {slot} ({front} in front, {back} at the back); {}", self.reader_takes());
+                return Ok(format!("the two tables differ, first in slot {slot} ({front} in front, {back} at the back); {}", self.reader_takes()));
             }
-            _ => return refused.to_string(),
+            _ => return Ok(refused.to_string()),
         };
-        match self.next_step() {
+        Ok(match self.next_step()? {
             Some(step) => format!("{table} table: {}; {step}", table_words(refused.refusal)),
             None if lost.is_empty() => format!("{table} table: {}", table_words(refused.refusal)),
-            None => format!("{table} table: {}; {lost} {}", table_words(refused.refusal), self.shown()),
-        }
+            None => format!("{table} table: {}; {lost} {}", table_words(refused.refusal), self.word()),
+        })
     }
 
     /// Where both tables are whole and differ, the one that is shown.
@@ -115,43 +131,84 @@ impl Opened {
             Ok(Table::Back) => "back",
             _ => "front",
         };
-        format!("the reader takes the {table}: card repair {}", self.shown())
+        format!("the reader takes the {table}: card repair {}", self.word())
     }
 
-    /// What helps with a table that cannot be read.
-    fn next_step(&self) -> Option<String> {
-        match self.card.reader_copy() {
-            Ok(Table::Front) => return Some(format!("the front is good: card repair {}", self.shown())),
-            Ok(Table::Back) => return Some(format!("the back is good: card repair {}", self.shown())),
-            Err(_) => {}
+    /// What helps with a table that cannot be read. A front table that is good for a shorter file comes first: what stands at the end may be an older card's.
+    fn next_step(&self) -> Outcome<Option<String>> {
+        if let Some((shorter, _)) = self.shorter()? {
+            return Ok(Some(format!("it is laid for {} blocks, and the file has {}: card grow {}", shorter.blocks(), self.card.blocks(), self.word())));
         }
-        if let Some((shorter, _)) = self.shorter() {
-            return Some(format!("it is laid for {} blocks, and the file has {}: card grow {}", shorter.blocks(), self.card.blocks(), self.shown()));
+        match self.reader_table()? {
+            Some(Table::Front) => return Ok(Some(format!("the front is good: card repair {}", self.word()))),
+            Some(Table::Back) => return Ok(Some(format!("the back is good: card repair {}", self.word()))),
+            None => {}
         }
         let other = other_size(self.card.block_size());
-        self.at_other_size().map(|_| format!("a card with blocks of {other} bytes is there: try -b {other}"))
+        Ok(self.at_other_size()?.map(|_| format!("a card with blocks of {other} bytes is there: try -b {other}")))
+    }
+
+    /// The table that the reader takes; `None` where it takes neither.
+    pub fn reader_table(&self) -> Outcome<Option<Table>> {
+        self.unless_refused(self.card.reader_copy())
+    }
+
+    /// A value, or `None` where the library refuses. That reading failed is no verdict.
+    fn unless_refused<T>(&self, result: Result<T, FileError>) -> Outcome<Option<T>> {
+        match result {
+            Ok(value) => Ok(Some(value)),
+            Err(error @ FileError::Io(_)) => Err(io_words(&self.path, error)),
+            Err(_) => Ok(None),
+        }
+    }
+
+    /// The same file, looked at with another length.
+    fn again(&self, length: Option<u64>) -> Outcome<Medium> {
+        self.card.get_ref().again(length).map_err(|failure| io_failure(&self.shown(), &failure))
     }
 
     /// The card at the other block size, if the reader shows one there.
-    pub fn at_other_size(&self) -> Option<FileCard<Medium>> {
-        let other = BlockSize::try_from(other_size(self.card.block_size())).ok()?;
-        let card = FileCard::open(self.card.get_ref().again(None).ok()?, other).ok()?;
-        card.reader_copy().is_ok().then_some(card)
+    pub fn at_other_size(&self) -> Outcome<Option<FileCard<Medium>>> {
+        let Ok(other) = BlockSize::try_from(other_size(self.card.block_size())) else { return Ok(None) };
+        let Some(card) = self.unless_refused(FileCard::open(self.again(None)?, other))? else { return Ok(None) };
+        Ok(self.unless_refused(card.reader_copy())?.map(|_| card))
     }
 
     /// The card that a front table for a shorter file describes, if that table is good for it, and its disk GUID.
-    pub fn shorter(&self) -> Option<(FileCard<Medium>, Guid)> {
+    pub fn shorter(&self) -> Outcome<Option<(FileCard<Medium>, Guid)>> {
         let head = self.card.head();
         // SAFETY: the pointer and the length are those of one slice, which is only read.
         let read = unsafe { ffi::gpt_read_primary_header(head.as_ptr(), head.len(), self.b()) };
-        let blocks = (read.number == 0).then(|| read.header.backup_lba.checked_add(1)).flatten()?;
-        if blocks >= self.card.blocks() {
-            return None;
-        }
-        let medium = self.card.get_ref().again(blocks.checked_mul(self.b())).ok()?;
-        let card = FileCard::open(medium, self.card.block_size()).ok()?;
+        let blocks = (read.number == 0).then(|| read.header.backup_lba.checked_add(1)).flatten().filter(|blocks| *blocks < self.card.blocks());
+        let Some(blocks) = blocks else { return Ok(None) };
+        let Some(card) = self.unless_refused(FileCard::open(self.again(Some(blocks * self.b()))?, self.card.block_size()))? else { return Ok(None) };
+        let taken = self.unless_refused(card.reader_copy())?;
         let ffi::gpt_guid { time_low, time_mid, time_high, tail } = read.header.disk_guid;
-        matches!(card.reader_copy(), Ok(Table::Front)).then(|| (card, Guid::from_fields(time_low, time_mid, time_high, tail)))
+        Ok((taken == Some(Table::Front)).then(|| (card, Guid::from_fields(time_low, time_mid, time_high, tail))))
+    }
+
+    /// What laying would drop: the used slots that the reader shows, at this length or a shorter one, at this block size or the other one, or that another maker's front table has.
+    pub fn would_drop(&self) -> Outcome<Option<String>> {
+        if let Some(list) = self.unless_refused(self.card.reader_list())?.filter(|list| list.len() > 0) {
+            return Ok(Some(format!("is a card with {}", count(list.len(), "used slot"))));
+        }
+        if let Some(list) = self.shorter()?.map(|(card, _)| self.unless_refused(card.reader_list())).transpose()?.flatten().filter(|list| list.len() > 0) {
+            return Ok(Some(format!("is a card of fewer blocks with {}", count(list.len(), "used slot"))));
+        }
+        if let Some(card) = self.at_other_size()? {
+            if let Some(list) = self.unless_refused(card.reader_list())?.filter(|list| list.len() > 0) {
+                let b = other_size(self.card.block_size());
+                return Ok(Some(format!("is a card with blocks of {b} bytes and {}", count(list.len(), "used slot"))));
+            }
+        }
+        let front = self.card.get_ref().beginning().map_err(|failure| io_failure(&self.shown(), &failure))?;
+        let theirs = [BlockSize::B512, BlockSize::B4096]
+            .into_iter()
+            .filter_map(|b| card::uefi_list(&front, b, Table::Front).ok())
+            .map(|list| list.len())
+            .max()
+            .unwrap_or(0);
+        Ok((theirs > 0).then(|| format!("has another maker's table with {}", count(theirs, "used slot"))))
     }
 
     /// What each table has in a slot, front and back.
@@ -174,6 +231,16 @@ fn other_size(block_size: BlockSize) -> u64 {
     match block_size {
         BlockSize::B512 => 4096,
         BlockSize::B4096 => 512,
+    }
+}
+
+/// A path as one word of a shell.
+pub fn shell_word(path: &Path) -> String {
+    let text = path.display().to_string();
+    let plain = |c: char| c.is_alphanumeric() || "/._-+:@%,=".contains(c);
+    match !text.is_empty() && text.chars().all(plain) {
+        true => text,
+        false => format!("'{}'", text.replace('\'', "'\\''")),
     }
 }
 

@@ -49,7 +49,7 @@ pub fn write(mut args: Args, out: &mut Out) -> Outcome {
     let length = source.at_least()?;
     opened.card.payload_place(slot, at, length as usize).map_err(|error| not_done(&opened, slot, "written", at, length, error))?;
     if opened.card.get_ref().is_dry() {
-        let note = dry_note(&opened, slot, at, length)?;
+        let note = dry_note(&opened, slot, at, source.length)?;
         return dry::report(&opened.card, &opened.shown(), &[note], out);
     }
     let mut progress = Progress::new(&args, "written", source.length);
@@ -126,25 +126,62 @@ impl Source {
 }
 
 /// Writes a source into a slot, and has it stored. Says how many bytes there were, and their check sum.
+///
+/// Where the source begins at the label's place, a label that is there is first written over with zeros, and then, or where the source has a label, its own first bytes come last, each stored
+/// before the next: a card that is pulled meanwhile shows no map under another map's date.
 pub fn copy_in(opened: &mut Opened, slot: u32, at: u64, source: &mut Source, progress: &mut Progress) -> Outcome<(u64, u32)> {
     let mut chunk = vec![0; CHUNK];
-    let (mut done, mut sum) = (0, FRESH);
+    let (mut done, mut sum, mut first) = (0, FRESH, Vec::new());
     loop {
         let count = source.fill(&mut chunk)?;
         if count == 0 {
             break;
         }
-        let begun = opened.card.get_ref().written();
-        if let Err(error) = opened.card.write_payload(slot, at + done, &chunk[..count]) {
-            done += opened.card.get_ref().written() - begun;
-            return Err(half_written(opened, slot, at, done, count as u64, error));
+        let mut held = 0;
+        if done == 0 && at < 13 {
+            let fits = opened.card.payload_place(slot, at, count).map(|_| ());
+            let labelled = fits.and_then(|()| without_label(opened, slot)).map_err(|error| half_written(opened, slot, at, 0, count as u64, error))?;
+            if labelled || at == 0 && chunk.starts_with(b"FBM") {
+                held = count.min(13 - at as usize);
+                first = chunk[..held].to_vec();
+            }
         }
+        let begin = at + first.len() as u64;
+        store(opened, slot, begin, at + done + held as u64 - begin, &chunk[held..count])?;
         sum = crc32_next(sum, &chunk[..count]);
         done += count as u64;
         progress.at(done);
     }
     opened.card.sync().map_err(|error| io_words(&opened.path, error))?;
+    if !first.is_empty() {
+        store(opened, slot, at, 0, &first)?;
+        opened.card.sync().map_err(|error| io_words(&opened.path, error))?;
+    }
     Ok((done, sum))
+}
+
+/// Writes bytes into a slot, behind so many that were written from a place on.
+fn store(opened: &mut Opened, slot: u32, at: u64, done: u64, bytes: &[u8]) -> Outcome {
+    let begun = opened.card.get_ref().written();
+    match opened.card.write_payload(slot, at + done, bytes) {
+        Ok(_) => Ok(()),
+        Err(error) => {
+            let done = done + (opened.card.get_ref().written() - begun);
+            Err(half_written(opened, slot, at, done, bytes.len() as u64, error))
+        }
+    }
+}
+
+/// Writes zeros over the label of a slot, if it has one, and has them stored. Says whether it had one.
+fn without_label(opened: &mut Opened, slot: u32) -> Result<bool, FileError> {
+    match opened.card.read_label(slot) {
+        Ok(_) => {
+            opened.card.write_payload(slot, 0, &[0; 13])?;
+            opened.card.sync().map(|()| true)
+        }
+        Err(error @ FileError::Io(_)) => Err(error),
+        Err(_) => Ok(false),
+    }
 }
 
 /// A write that ended in the middle: a pipe that was too long, or a device that failed.
@@ -185,10 +222,12 @@ pub fn verify(opened: &mut Opened, slot: u32, at: u64, bytes: u64, sum: u32, pro
 }
 
 /// What a dry run says of payload.
-pub fn dry_note(opened: &Opened, slot: u32, at: u64, bytes: u64) -> Outcome<String> {
-    if bytes == 0 {
-        return Ok(format!("would write bytes from a pipe into slot {slot}, from place {at}"));
-    }
+pub fn dry_note(opened: &Opened, slot: u32, at: u64, bytes: Option<u64>) -> Outcome<String> {
+    let bytes = match bytes {
+        None => return Ok(format!("would write the bytes of a pipe into slot {slot}, from place {at}")),
+        Some(0) => return Ok(format!("slot {slot}: there are no bytes to write")),
+        Some(bytes) => bytes,
+    };
     let place = opened.card.payload_place(slot, at, bytes as usize).map_err(|error| not_done(opened, slot, "written", at, bytes, error))?;
     Ok(format!("would write bytes {place} to {} of the file (slot {slot}, from place {at})", place + bytes - 1))
 }
@@ -197,18 +236,14 @@ pub fn dry_note(opened: &Opened, slot: u32, at: u64, bytes: u64) -> Outcome<Stri
 pub fn wipe(opened: &mut Opened, slot: u32, record: &Record, args: &Args, notes: &mut Vec<String>) -> Outcome {
     let bytes = words::bytes_of(record.first, record.last, opened.b());
     if opened.card.get_ref().is_dry() {
-        notes.push(dry_note(opened, slot, 0, bytes)?);
+        notes.push(dry_note(opened, slot, 0, Some(bytes))?);
         return Ok(());
     }
     let (zeros, mut done) = (vec![0; CHUNK], 0);
     let mut progress = Progress::new(args, "wiped", Some(bytes));
     while done < bytes {
         let count = (bytes - done).min(CHUNK as u64) as usize;
-        let begun = opened.card.get_ref().written();
-        if let Err(error) = opened.card.write_payload(slot, done, &zeros[..count]) {
-            done += opened.card.get_ref().written() - begun;
-            return Err(half_written(opened, slot, 0, done, count as u64, error));
-        }
+        store(opened, slot, 0, done, &zeros[..count])?;
         done += count as u64;
         progress.at(done);
     }
@@ -253,18 +288,23 @@ pub fn label(mut args: Args, out: &mut Out) -> Outcome {
     let slot = slot_of(&args, &slot, "labelled", if reads { "" } else { LEFT })?;
     let mut opened = Opened::open(&args, &path, if reads { Access::Read } else { access(&args) })?;
     opened.checked(opened.card.check())?;
-    let there = opened.card.read_label(slot);
-    if reads {
-        let label = there.map_err(|error| label_failure(&mut opened, slot, error))?;
+    let there = match opened.card.read_label(slot) {
+        Ok(label) => Some(label),
+        // A label that is written over need not be one yet.
+        Err(FileError::Refused(refused)) if !reads && matches!(refused.refusal, Refusal::BadMark | Refusal::UnknownVersion | Refusal::BadDate) => None,
+        Err(error) if reads => return Err(label_failure(&mut opened, slot, error)),
+        Err(error) => return Err(opened.failure(error, |refusal| format!("slot {slot} not labelled: {}. Nothing was changed.", slot_refusal(slot, refusal)))),
+    };
+    if let (true, Some(label)) = (reads, there) {
         out.line(format!("slot {slot}: {}", words::label(label)));
         return Ok(());
     }
-    let Some(label) = parts.over(there.ok()) else {
+    let Some(label) = parts.over(there) else {
         return args.usage(format!("slot {slot} has no label yet: say --date, --style and --sheet"));
     };
     write_label(&mut opened, slot, label)?;
     if opened.card.get_ref().is_dry() {
-        let note = dry_note(&opened, slot, 0, 13)?;
+        let note = dry_note(&opened, slot, 0, Some(13))?;
         return dry::report(&opened.card, &opened.shown(), &[note], out);
     }
     out.changed = true;

@@ -53,7 +53,9 @@ fn escaped(text: &str) -> String {
 fn verdict(opened: &Opened, refused: Option<Refused>, out: &mut Out) -> Outcome {
     match refused {
         None => out.line("<p class=\"good\">The check accepts the card.</p>".to_string()),
-        Some(refused) => out.line(format!("<p class=\"bad\">The check refuses the card: {} [{}]</p>", escaped(&opened.check_words(refused)), refused.number())),
+        Some(refused) => {
+            out.line(format!("<p class=\"bad\">The check refuses the card: {} [{}]</p>", escaped(&opened.check_words(refused)?), refused.number()))
+        }
     }
     match opened.card.reader_copy() {
         Ok(table) => out.line(format!("<p>The reader takes the {} table.</p>", name_of(table))),

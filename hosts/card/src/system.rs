@@ -1,7 +1,7 @@
 //! The few calls of the system that Rust's library lacks: locks, a device's block size, the terminal's width, a read-only mapping, and whether standard output was open.
 use std::fs::File;
 use std::io::{Error, ErrorKind, Result};
-use std::os::fd::AsRawFd;
+use std::os::fd::{AsRawFd, FromRawFd};
 use std::sync::atomic::{AtomicBool, Ordering};
 
 extern "C" {
@@ -9,6 +9,7 @@ extern "C" {
     fn ioctl(fd: i32, request: u64, ...) -> i32;
     fn fcntl(fd: i32, command: i32, ...) -> i32;
     fn mmap(address: *mut u8, length: usize, protection: i32, flags: i32, fd: i32, place: i64) -> *mut u8;
+    fn memfd_create(name: *const u8, flags: u32) -> i32;
     fn posix_fadvise(fd: i32, place: i64, length: i64, advice: i32) -> i32;
     fn signal(number: i32, handler: usize) -> usize;
     fn write(fd: i32, bytes: *const u8, length: usize) -> isize;
@@ -75,6 +76,15 @@ pub fn read_table_again(device: &File) -> Result<()> {
 pub fn forget(file: &File) {
     // SAFETY: the call takes numbers alone.
     unsafe { posix_fadvise(file.as_raw_fd(), 0, 0, NOT_NEEDED) };
+}
+
+/// A file without a name, of which only what is written takes memory.
+pub fn file_in_memory() -> Result<File> {
+    // SAFETY: the name is bytes that end with a zero; the descriptor that comes back is new, and nobody else's.
+    match unsafe { memfd_create(b"card\0".as_ptr(), 0) } {
+        -1 => Err(Error::last_os_error()),
+        fd => Ok(unsafe { File::from_raw_fd(fd) }),
+    }
 }
 
 /// How many columns the terminal of standard output has, if it is one.

@@ -4,10 +4,10 @@ use crate::dry;
 use crate::failure::{io_failure, system_words, Failure, Outcome};
 use crate::look::name_of;
 use crate::medium::{drawn_guid, Access, Medium};
-use crate::opened::{block_size, io_words, too_small, Opened};
+use crate::opened::{block_size, given_block_size, io_words, shell_word, too_small, Opened};
 use crate::output::Out;
 use crate::payload;
-use crate::words::{self, count, quoted};
+use crate::words::{self, quoted};
 use card::{BlockSize, Device, Entry, FileCard, FileError, FileStaged, Flags, Guid, Name, Record, Refusal, Table};
 use std::ffi::OsString;
 use std::fs::{self, OpenOptions};
@@ -25,33 +25,50 @@ pub fn lay(mut args: Args, out: &mut Out) -> Outcome {
     let path = PathBuf::from(args.word("FILE")?);
     args.end()?;
     let size = args.value("size", args::bytes)?;
-    let guid = args.value("guid", args::guid)?;
-    let (medium, made) = medium_to_lay(&args, &path, size)?;
+    given_block_size(&args)?;
+    let guid = match args.value("guid", args::guid)? {
+        Some(guid) => guid,
+        None => drawn_guid()?,
+    };
+    let (medium, made) = medium_to_lay(&args, &path, size, access(&args))?;
+    // The lock is the file's as long as one descriptor of it is open: nobody else lays the file before it is removed again.
+    let lock = medium.file().try_clone();
     let laid = laid(&args, medium, &path, size, guid, out);
     if laid.is_err() && made {
-        // The file has nothing in it yet, and the failure that counts is the first one.
+        // The failure that counts is the first one.
         let _ = fs::remove_file(&path);
     }
-    laid
+    drop(lock);
+    match laid {
+        Err(Failure::Io(words)) if !made => {
+            Err(Failure::Io(format!("{words}. It may be laid in part: card show {} says what it shows; lay it again", shell_word(&path))))
+        }
+        laid => laid,
+    }
 }
 
 /// The file to lay a card on, and whether it was made here.
-pub fn medium_to_lay(args: &Args, path: &Path, size: Option<u64>) -> Outcome<(Medium, bool)> {
+pub fn medium_to_lay(args: &Args, path: &Path, size: Option<u64>, access: Access) -> Outcome<(Medium, bool)> {
     let shown = path.display().to_string();
     let size = match (fs::metadata(path), size) {
         (Err(failure), Some(size)) if failure.kind() == io::ErrorKind::NotFound => size,
         (Err(failure), None) if failure.kind() == io::ErrorKind::NotFound => {
             return args.usage(format!("{shown} is not there: say how long it should be, as --size 8G"));
         }
-        _ => return Ok((Medium::open(path, access(args))?, false)),
+        _ => return Ok((Medium::open(path, access)?, false)),
     };
     let failed = |failure: io::Error| io_failure(&shown, &failure);
-    if args.has("dry-run") {
-        return Ok((Medium::blank(size, access(args))?, false));
+    if access.is_dry() {
+        return Ok((Medium::blank(size, access)?, false));
     }
     let file = OpenOptions::new().read(true).write(true).create_new(true).open(path).map_err(failed)?;
-    match file.set_len(size).map_err(failed).and_then(|()| Medium::locked(file, &shown, access(args))) {
-        Ok(medium) => Ok((medium, true)),
+    let medium = Medium::locked(file, &shown, access)?;
+    // Another command may have taken the empty file before it was locked.
+    if medium.length_now().map_err(failed)? != 0 {
+        return Ok((medium, false));
+    }
+    match set_length(&medium, &shown, size) {
+        Ok(()) => Ok((medium, true)),
         Err(failure) => {
             let _ = fs::remove_file(path);
             Err(failure)
@@ -59,8 +76,16 @@ pub fn medium_to_lay(args: &Args, path: &Path, size: Option<u64>) -> Outcome<(Me
     }
 }
 
+/// Gives an empty file its length.
+fn set_length(medium: &Medium, shown: &str, size: u64) -> Outcome {
+    if i64::try_from(size).is_err() {
+        return Err(Failure::Io(format!("{shown}: no file can have {size} bytes")));
+    }
+    medium.file().set_len(size).map_err(|failure| io_failure(shown, &failure))
+}
+
 /// Lays the card, if that drops no slot.
-fn laid(args: &Args, medium: Medium, path: &Path, size: Option<u64>, guid: Option<Guid>, out: &mut Out) -> Outcome {
+fn laid(args: &Args, medium: Medium, path: &Path, size: Option<u64>, guid: Guid, out: &mut Out) -> Outcome {
     let shown = path.display().to_string();
     let failed = |failure: io::Error| io_failure(&shown, &failure);
     let block_size = block_size(args, &medium, &shown)?;
@@ -73,14 +98,10 @@ fn laid(args: &Args, medium: Medium, path: &Path, size: Option<u64>, guid: Optio
         return Err(Failure::Refused(format!("{shown} has {bytes} bytes, not the {size} of --size. Nothing was changed.")));
     }
     if !args.has("force") {
-        drops_no_slot(&medium, &shown, block_size)?;
+        drops_no_slot(&medium, path, block_size)?;
     }
-    let guid = match guid {
-        Some(guid) => guid,
-        None => drawn_guid()?,
-    };
     let card = lay_on(medium, path, block_size, guid)?;
-    out.changed = true;
+    out.changed = !card.get_ref().is_dry();
     finish_lay(&card, &shown, out)
 }
 
@@ -90,16 +111,16 @@ pub fn lengthened(medium: Medium, path: &Path, size: u64, block_size: BlockSize,
     if medium.length_now().map_err(failed)? != 0 || medium.is_device() {
         return Ok(medium);
     }
-    room_for(path, size, block_size, access)?;
+    room_for(path, size, block_size)?;
     match medium.is_dry() {
         true => Medium::blank(size, access),
-        false => medium.file().set_len(size).map(|()| medium).map_err(failed),
+        false => set_length(&medium, &path.display().to_string(), size).map(|()| medium),
     }
 }
 
 /// Whether a file of so many bytes has room for a card, which the library says of as many zeros.
-fn room_for(path: &Path, size: u64, block_size: BlockSize, access: Access) -> Outcome {
-    match FileCard::open(Medium::blank(size, access)?, block_size) {
+fn room_for(path: &Path, size: u64, block_size: BlockSize) -> Outcome {
+    match FileCard::open(Zeros { length: size }, block_size) {
         Err(FileError::Refused(refused)) => Err(Failure::Refused(not_laid(path, size, block_size, refused.number()))),
         Err(other) => Err(io_words(path, other)),
         Ok(_) => Ok(()),
@@ -120,6 +141,24 @@ pub fn lay_on(medium: Medium, path: &Path, block_size: BlockSize, guid: Guid) ->
     })
 }
 
+/// So many zeros, which are only read.
+struct Zeros {
+    length: u64,
+}
+
+impl io::Read for Zeros {
+    fn read(&mut self, out: &mut [u8]) -> io::Result<usize> {
+        out.fill(0);
+        Ok(out.len())
+    }
+}
+
+impl Seek for Zeros {
+    fn seek(&mut self, to: SeekFrom) -> io::Result<u64> {
+        Ok(if let SeekFrom::Start(place) = to { place } else { self.length })
+    }
+}
+
 fn finish_lay(card: &FileCard<Medium>, shown: &str, out: &mut Out) -> Outcome {
     if card.get_ref().is_dry() {
         if card.get_ref().is_blank() {
@@ -135,16 +174,20 @@ fn finish_lay(card: &FileCard<Medium>, shown: &str, out: &mut Out) -> Outcome {
     Ok(())
 }
 
-/// Refuses to lay over slots that the reader shows.
-fn drops_no_slot(medium: &Medium, shown: &str, block_size: BlockSize) -> Outcome {
-    let again = medium.again(None).map_err(|failure| io_failure(shown, &failure))?;
-    let used = FileCard::open(again, block_size).ok().and_then(|card| card.reader_list().ok()).map_or(0, |list| list.len());
-    match used {
-        0 => Ok(()),
-        _ => Err(Failure::Refused(format!(
-            "{shown} is a card with {}, and laying drops them. Nothing was changed. To lay it anew: card lay --force {shown}",
-            count(used, "used slot")
-        ))),
+/// Refuses to lay over used slots.
+fn drops_no_slot(medium: &Medium, path: &Path, block_size: BlockSize) -> Outcome {
+    let shown = path.display().to_string();
+    let again = medium.again(None).map_err(|failure| io_failure(&shown, &failure))?;
+    let opened = match Opened::of(again, path, block_size, Access::Read) {
+        // What is too small for a card is refused by the lay itself.
+        Err(Failure::Refused(_)) => return Ok(()),
+        opened => opened?,
+    };
+    match opened.would_drop()? {
+        None => Ok(()),
+        Some(what) => {
+            Err(Failure::Refused(format!("{shown} {what}, and laying drops them. Nothing was changed. To lay it anew: card lay --force {}", opened.word())))
+        }
     }
 }
 
@@ -203,9 +246,12 @@ fn cut(shown: &str, stage: u32, stages: u32, error: &FileError) -> Failure {
         FileError::Io(failure) => system_words(failure),
         other => other.to_string(),
     };
-    Failure::Io(format!(
-        "{shown}: stage {stage} of {stages}: {words}. The card is one that was pulled: card show {shown} says what it shows, card repair {shown} mends it"
-    ))
+    let word = shell_word(Path::new(shown));
+    let next = match stage {
+        1 => format!("The reader shows the old table; card check {word} says whether the card has to be repaired"),
+        _ => format!("The card is one that was pulled: card show {word} says what it shows, card repair {word} mends it"),
+    };
+    Failure::Io(format!("{shown}: stage {stage} of {stages}: {words}. {next}"))
 }
 
 /// What a call that begins an update comes to: refused in its own words, or failed at stage 1.
@@ -411,6 +457,9 @@ pub fn clear(mut args: Args, out: &mut Out) -> Outcome {
     if opened.card.get_ref().is_dry() {
         return dry::report(&opened.card, &shown, &notes, out);
     }
+    if args.has("wipe") && carried.stage < carried.stages {
+        out.line(format!("the bytes of slot {slot} are zeros already"));
+    }
     let Record { first, last, .. } = record;
     let words = match args.has("wipe") {
         true => format!("slot {slot} wiped and cleared: zeros in blocks {first} to {last}"),
@@ -430,9 +479,12 @@ pub fn repair(mut args: Args, out: &mut Out) -> Outcome {
         return nothing_to_do(&opened, out);
     }
     let shown = opened.shown();
-    let Ok(from) = opened.card.reader_copy() else {
-        return Err(Failure::Refused(format!("{shown} not repaired: neither table can be read: {}. Nothing was changed. [27]", opened.unread_words())));
+    let Some(from) = opened.reader_table()? else {
+        return Err(Failure::Refused(format!("{shown} not repaired: neither table can be read: {}. Nothing was changed. [27]", opened.unread_words()?)));
     };
+    if !args.has("force") {
+        not_an_older_back(&opened, from)?;
+    }
     let other = if from == Table::Front { Table::Back } else { Table::Front };
     let (from, other) = (name_of(from), name_of(other));
     let staged = match begun(opened.card.start_repair(), &shown, stages)? {
@@ -453,6 +505,21 @@ pub fn repair(mut args: Args, out: &mut Out) -> Outcome {
     Ok(())
 }
 
+/// A card that was copied onto a longer one has a front table for fewer blocks, and at the end may stand the back table of the card before: to repair from that one would bring back its slots.
+fn not_an_older_back(opened: &Opened, from: Table) -> Outcome {
+    let Some((shorter, _)) = opened.shorter()? else { return Ok(()) };
+    let entries = |card: &FileCard<Medium>| card.reader_list().map(|list| list.collect::<Vec<Entry>>()).map_err(|error| io_words(&opened.path, error));
+    if from == Table::Front || entries(&shorter)? == entries(&opened.card)? {
+        return Ok(());
+    }
+    Err(Failure::Refused(format!(
+        "{} not repaired: its front table is that of a card of {} blocks with other slots than the back one's. Nothing was changed. card grow {} keeps the front's slots, card repair --force the back's",
+        opened.shown(),
+        shorter.blocks(),
+        opened.word()
+    )))
+}
+
 /// `grow FILE`: the same slots on all blocks of a file that has become longer.
 ///
 /// The new tables are made in memory by the library: a card of the new length is laid there with the same GUID, and each slot that the reader shows of the shorter card is put again. The back
@@ -466,15 +533,19 @@ pub fn grow(mut args: Args, out: &mut Out) -> Outcome {
         out.line(format!("nothing to grow: the card has all {} blocks of the file", opened.card.blocks()));
         return nothing_to_do(&opened, out);
     }
-    let Some((before, guid)) = opened.shorter() else {
-        return Err(Failure::Refused(format!("{shown} not grown: it has no front table that is good for a shorter file. Nothing was changed.")));
+    let Some((before, guid)) = opened.shorter()? else {
+        let hint = match opened.at_other_size()? {
+            Some(card) => format!(" A card with blocks of {} bytes is there: try -b {}", card.block_size().bytes(), card.block_size().bytes()),
+            None => String::new(),
+        };
+        return Err(Failure::Refused(format!("{shown} not grown: it has no front table that is good for a shorter file. Nothing was changed.{hint}")));
     };
     let entries: Vec<Entry> = before.reader_list().map_err(|error| io_words(&opened.path, error))?.collect();
     let (old, slots) = (before.blocks(), entries.len());
     let grown = grown(&opened, guid, &entries)?;
     let mut medium = opened.card.get_ref().again(None).map_err(|failure| io_failure(&shown, &failure))?;
     store_grown(&mut medium, &grown)
-        .map_err(|failure| Failure::Io(format!("{shown}: {}. card show {shown} says what it shows; card grow {shown} goes on", system_words(&failure))))?;
+        .map_err(|failure| Failure::Io(format!("{shown}: {}. card check {} says how to go on", system_words(&failure), opened.word())))?;
     if medium.is_dry() {
         let card = FileCard::open(medium, opened.card.block_size()).map_err(|error| io_words(&opened.path, error))?;
         return dry::report(&card, &shown, &[], out);
