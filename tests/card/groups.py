@@ -8,6 +8,7 @@ import drawn
 import dry
 import failing
 import grow
+import kept
 import labels
 import lay
 import listing
@@ -41,6 +42,7 @@ ALL = {
     "grow": grow.run,
     "cuts": cuts.run,
     "apply": apply.run,
+    "kept": kept.run,
     "drawn": drawn.run,
     "damage": damage.run,
     "uefi": uefi.run,
