@@ -315,9 +315,10 @@ fn record_for(opened: &Opened, line: &Line, there: Option<Record>) -> Outcome<Re
             let kept = there.filter(|_| old.is_some_and(|old| old >= blocks)).map(|record| record.first);
             kept.or_else(|| room_in(&runs, blocks, b)).map(|first| (first, first + (blocks - 1)))
         }
-        (None, None) => {
-            runs.iter().find(|run| run.end() - run.start() + 1 == largest).map(|run| (room_in(&[run.clone()], 1, b).unwrap_or(*run.start()), *run.end()))
-        }
+        (None, None) => runs
+            .iter()
+            .find(|run| run.end() - run.start() + 1 == largest)
+            .map(|run| (room_in(std::slice::from_ref(run), 1, b).unwrap_or(*run.start()), *run.end())),
     };
     let Some((first, last)) = place else {
         let asked = blocks.map_or("a block".to_string(), |blocks| format!("{blocks} blocks ({})", words::size(blocks.saturating_mul(b))));

@@ -114,7 +114,8 @@ impl Opened {
             Some(Place::DiskGuid) => return Ok(format!("the two tables have different disk GUIDs; {}", self.reader_takes())),
             Some(Place::Slot(slot)) => {
                 let [front, back] = self.names(slot);
-                return Ok(format!("the two tables differ, first in slot {slot} ({front} in front, {back} at the back); {}", self.reader_takes()));
+                let also = if front == back { self.other_field(slot) } else { "" };
+                return Ok(format!("the two tables differ, first in slot {slot} ({front} in front, {back} at the back{also}); {}", self.reader_takes()));
             }
             _ => return Ok(refused.to_string()),
         };
@@ -211,10 +212,26 @@ impl Opened {
         Ok((theirs > 0).then(|| format!("has another maker's table with {}", count(theirs, "used slot"))))
     }
 
+    /// The bytes of a slot in each table, front and back.
+    fn entries(&self, slot: u32) -> [&[u8]; 2] {
+        [&self.card.head()[2 * self.b() as usize..], self.card.tail()].map(|array| &array[128 * (slot as usize - 1)..][..128])
+    }
+
+    /// In which field two entries of one name differ first.
+    fn other_field(&self, slot: u32) -> &'static str {
+        let [front, back] = self.entries(slot);
+        match front.iter().zip(back).position(|(one, other)| one != other) {
+            Some(0..=15) => ", with another type",
+            Some(16..=31) => ", with another GUID",
+            Some(32..=47) => ", with other blocks",
+            Some(48..=55) => ", with other flags",
+            _ => ", with other bytes behind the name",
+        }
+    }
+
     /// What each table has in a slot, front and back.
     fn names(&self, slot: u32) -> [String; 2] {
-        let entry = |array: &[u8]| {
-            let bytes = &array[128 * (slot as usize - 1)..][..128];
+        let entry = |bytes: &[u8]| {
             // SAFETY: the pointer and the length are those of one slice, which is only read.
             let read = unsafe { ffi::gpt_entry_from_bytes(bytes.as_ptr(), bytes.len()) };
             match bytes[..16] == [0; 16] {
@@ -222,7 +239,7 @@ impl Opened {
                 false => quoted(&Name::from_raw(read.partition.name)),
             }
         };
-        [entry(&self.card.head()[2 * self.b() as usize..]), entry(self.card.tail())]
+        self.entries(slot).map(entry)
     }
 }
 

@@ -127,7 +127,7 @@ impl Source {
 
 /// Writes a source into a slot, and has it stored. Says how many bytes there were, and their check sum.
 ///
-/// Where the source begins at the label's place, a label that is there is first written over with zeros, and then, or where the source has a label, its own first bytes come last, each stored
+/// Where the source covers the label's place, a label that is there is first written over with zeros, and then, or where the source has a label, its own first bytes come last, each stored
 /// before the next: a card that is pulled meanwhile shows no map under another map's date.
 pub fn copy_in(opened: &mut Opened, slot: u32, at: u64, source: &mut Source, progress: &mut Progress) -> Outcome<(u64, u32)> {
     let mut chunk = vec![0; CHUNK];
@@ -138,11 +138,11 @@ pub fn copy_in(opened: &mut Opened, slot: u32, at: u64, source: &mut Source, pro
             break;
         }
         let mut held = 0;
-        if done == 0 && at < 13 {
+        if done == 0 && at == 0 && count >= 13 {
             let fits = opened.card.payload_place(slot, at, count).map(|_| ());
             let labelled = fits.and_then(|()| without_label(opened, slot)).map_err(|error| half_written(opened, slot, at, 0, count as u64, error))?;
-            if labelled || at == 0 && chunk.starts_with(b"FBM") {
-                held = count.min(13 - at as usize);
+            if labelled || chunk.starts_with(b"FBM") {
+                held = 13;
                 first = chunk[..held].to_vec();
             }
         }
@@ -354,7 +354,7 @@ pub fn screen(mut args: Args, out: &mut Out) -> Outcome {
     let path = PathBuf::from(args.word("FILE")?);
     let mut slots = Vec::new();
     for word in args.rest() {
-        slots.push(args.read(&word, number)?);
+        slots.push(slot_of(&args, &word, "judged", "")?);
     }
     let mut opened = Opened::open(&args, &path, Access::Read)?;
     let line = judge(&mut opened, &slots)?;
