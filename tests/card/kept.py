@@ -1,6 +1,8 @@
 """What must not be lost: a card that is there is not laid over, an older back table does not come back, a plan that cannot be carried out changes nothing, and no map stands under another map's date."""
 import os
 import struct
+import subprocess
+import time
 
 import gpt
 import straced
@@ -128,6 +130,23 @@ def output(b):
     b.true("a dry run whose report cannot be written has done nothing", "done, but" not in done.err and done.status == 3, done)
 
 
+def two_lays(b):
+    """Of two commands that make one file, the second finds what the first laid, and removes nothing."""
+    if straced.missing():
+        return b.not_run("two lays of one file", straced.missing())
+    for calls in ("ftruncate", "flock"):
+        b.remove("race.img")
+        slow = ("strace", "-f", "-qq", "-o", "/dev/null", "-e", f"trace={calls}", "-e", f"inject={calls}:delay_enter=1500000:when=1")
+        first = subprocess.Popen([*slow, *b.command("lay", "race.img", "--size", "4M")], cwd=b.folder, stdout=subprocess.DEVNULL, stderr=subprocess.PIPE)
+        while not os.path.exists(b.path("race.img")) and first.poll() is None:
+            time.sleep(0.01)
+        b.run("lay", "race.img", "--size", "4M")
+        put = b.run("put", "race.img", "1", "--size", "64K", "--name", "map")
+        first.communicate(timeout=60)
+        listed = b.run("list", "race.img")
+        b.true(f"two lays of one file, the first slow at {calls}: the file is there, and a slot that was put stays", put.status == 0 and '"map"' in listed.out, f"{put} {listed}")
+
+
 def run(b):
-    for test in (laid_over, older_back, plans, own_labels, shorter_map, dates_in_cuts, labels_refused, output):
+    for test in (two_lays, laid_over, older_back, plans, own_labels, shorter_map, dates_in_cuts, labels_refused, output):
         test(b)
