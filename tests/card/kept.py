@@ -147,6 +147,77 @@ def two_lays(b):
         b.true(f"two lays of one file, the first slow at {calls}: the file is there, and a slot that was put stays", put.status == 0 and '"map"' in listed.out, f"{put} {listed}")
 
 
+def new_ground(b):
+    """A slot that is new, or that comes to ground where a map was: the label of the map before is gone before a byte of the new one is there."""
+    if straced.missing():
+        return b.not_run("cuts of maps on other ground", straced.missing())
+    old = labelled(2025, b"O" * 3000)
+    b.store("plain.map", b"N" * 3000)
+    line = b"size=2048, name=new, file=plain.map, date=2026-05-01, style=3, sheet=%d\n"
+    b.store("new", b"1: start=2048, " + line % 1)
+    b.store("moved", b"1: start=6144, " + line % 1 + b"2: start=2048, " + line % 2)
+    for plan, entries in (("new", {}), ("moved", {1: gpt.Entry(2048, 4095, "old", gpt.guid(1))})):
+        image = gpt.stored(gpt.card(16384, entries=entries), 2048 * 512, old)
+        b.store("a.img", image)
+        found, done = straced.events(b, ("apply", plan, "a.img"), "a.img")
+        steps = list(straced.prefixes(image, found))
+        b.true(f"apply {plan} under strace: the writes seen are the writes done", done.status == 0 and steps[-1] == b.bytes("a.img") and len(steps) > 5, done)
+        for count, step in enumerate(steps):
+            at = 2048 * 512
+            label, body = step[at:at + 13], step[at + 13:at + 3013]
+            year = struct.unpack_from("<H", label, 5)[0] if label[:3] == b"FBM" else None
+            b.true(f"apply {plan}, cut after {count} writes: no map stands under another map's date", {2025: b"O" * 3000, 2026: b"N" * 3000, None: body}[year] == body, year)
+
+
+def pulled_and_longer(b):
+    """A card that was pulled in the third stage and then copied onto a longer file is not laid over, and nobody is told to."""
+    entries = {1: gpt.Entry(2048, 2060, "m", gpt.guid(1))}
+    b.store("a.img", gpt.card(4096, entries=entries))
+    b.run("put", "a.img", "2", "--first", "2100", "--last", "2110", "--stop-after", "3")
+    with open(b.path("a.img"), "r+b") as f:
+        f.truncate(3 << 20)
+    b.store("plan", b"label: gpt\n1: size=64K\n")
+    b.refuses(("lay", "a.img"), like("card: a.img is a card of fewer blocks with 2 used slots, and laying drops them. {..}\n"))
+    b.refuses(("apply", "plan", "a.img"), "card: 1 card not as planned", out=like("a.img: failed: {..}\n"))
+    b.refuses(("grow", "a.img"), like("card: a.img not grown: at its 4096 blocks the card was pulled, {..}\n"))
+    b.true("check of it does not say lay", "lay it anew" not in b.run("check", "a.img").err)
+
+
+def larger(b):
+    """A slot that is to become larger does so where it is; one that would have to move without a map to write is refused."""
+    b.store("map", labelled(2025, b"O" * 3000))
+    b.store("a.img", gpt.stored(gpt.card(16384, entries=ONE), 2048 * 512, b.bytes("map")))
+    b.store("plan", b'1: size=4096, name="last year"\n')
+    done = b.run("apply", "plan", "a.img")
+    b.true("apply of a larger size: in place", done.status == 0 and gpt.slots(b.bytes("a.img"), 512)[1].first == 2048, done)
+    b.store("a.img", gpt.card(16384, entries={**ONE, 2: gpt.Entry(4096, 4100, "next", gpt.guid(2))}))
+    b.refuses(("apply", "plan", "a.img"), "card: 1 card not as planned", out=like("a.img: failed: slot 1 not put: it has no room for 4096 blocks where it is, {..} Nothing was changed.\n"))
+
+
+def dry_dates(b):
+    """A dry run judges as the run does."""
+    b.store("plain.map", b"body")
+    for own in (2019, 2026):
+        b.store("own.map", labelled(own, b"body"))
+        b.store("plan", b"label: gpt\n1: size=64K, file=plain.map, date=2026-05-01, style=3, sheet=1\n2: size=64K, file=own.map\n")
+        b.store("a.img", bytes(4 << 20))
+        dry = b.run("apply", "plan", "a.img", "--dry-run")
+        real = b.run("apply", "plan", "a.img")
+        again = b.run("apply", "plan", "a.img", "--dry-run")
+        b.equal(f"apply of two dates, {own}: statuses of the dry run, the run, and a dry run after it", (dry.status, real.status, again.status), (1, 1, 1) if own == 2019 else (0, 0, 0))
+
+
+def odd_sources(b):
+    """What says that it is empty and has bytes, or has no end, is refused before anything is written."""
+    image = gpt.stored(gpt.card(8192, entries=MAPS), 2048 * 512, labelled(2025, b"O" * 3000))
+    for name in ("/dev/zero", "/proc/version"):
+        b.store("a.img", image)
+        b.store("plan", b"1: start=2048, size=4096, name=map, file=" + name.encode() + b"\n")
+        b.refuses(("apply", "plan", "a.img"), like("card: " + name + "{..}; see: card help apply\n"), status=2)
+    done = b.run("write", "a.img", "1", "/proc/version", "--dry-run")
+    b.true("write of /proc/version, dry: bytes are named", "would write bytes" in done.out, done)
+
+
 def run(b):
-    for test in (two_lays, laid_over, older_back, plans, own_labels, shorter_map, dates_in_cuts, labels_refused, output):
+    for test in (new_ground, pulled_and_longer, larger, dry_dates, odd_sources, two_lays, laid_over, older_back, plans, own_labels, shorter_map, dates_in_cuts, labels_refused, output):
         test(b)

@@ -14,6 +14,7 @@ use crate::table::{access, lay_on, lengthened, medium_to_lay, put_record, room_i
 use crate::words::{self, count, quoted};
 use card::{FileError, Label, Record, Refusal};
 use std::ops::RangeInclusive;
+use std::os::unix::fs::FileTypeExt;
 use std::path::Path;
 
 /// What is to be done to each card.
@@ -74,11 +75,16 @@ fn worse(one: u8, other: u8) -> u8 {
 fn rehearsed(args: &Args, plan: &Plan, path: &Path, size: Option<u64>, touched: &mut bool, out: &mut Out) -> Outcome {
     let asked = access(args);
     let work = Work { args, plan, size, access: asked, rehearsal: false };
-    if let Access::Write { dry: false, mounted } = asked {
-        let memory = Work { access: Access::Write { dry: true, mounted }, rehearsal: true, ..work };
-        one(&memory, path, touched, &mut Out::default())?;
-    }
-    one(&work, path, touched, out)
+    let Access::Write { dry: false, mounted } = asked else { return one(&work, path, None, touched, out) };
+    let memory = Work { access: Access::Write { dry: true, mounted }, rehearsal: true, ..work };
+    // A file that is there is locked once for both runs; one that is not is made after the first.
+    let medium = match path.exists() {
+        true => Some(Medium::open(path, asked)?),
+        false => None,
+    };
+    let copy = medium.as_ref().map(Medium::again_in_memory).transpose().map_err(|failure| io_failure(&path.display().to_string(), &failure))?;
+    one(&memory, path, copy, touched, &mut Out::default())?;
+    one(&work, path, medium, touched, out)
 }
 
 /// The words of a failure behind the card's name. Where bytes of the card were changed before it, they say so.
@@ -95,8 +101,16 @@ fn failed_words(failure: &Failure, path: &Path, touched: bool) -> String {
 fn sources_are_there(plan: &Plan) -> Outcome {
     for line in &plan.lines {
         let Some(file) = &line.file else { continue };
+        let kind = std::fs::metadata(file).map_err(|failure| io_failure(&file.display().to_string(), &failure))?.file_type();
+        if !(kind.is_file() || kind.is_block_device() || kind.is_dir()) {
+            return Err(Failure::Usage(format!("{} is no file that can be read more than once", file.display()), "apply"));
+        }
         let mut mark = [0; 3];
-        let read = Source::file(file)?.fill(&mut mark)?;
+        let mut source = Source::file(file)?;
+        let read = source.fill(&mut mark)?;
+        if source.length.is_none() && read > 0 {
+            return Err(Failure::Usage(format!("{} says that it is empty, and has bytes", file.display()), "apply"));
+        }
         if line.label.is_some() && read == 3 && mark == *b"FBM" {
             let words = format!("{} begins with a label of its own: leave date, style and sheet out of slot {}", file.display(), line.slot);
             return Err(Failure::Usage(words, "apply"));
@@ -106,8 +120,8 @@ fn sources_are_there(plan: &Plan) -> Outcome {
 }
 
 /// One card, in memory or on the file.
-fn one(work: &Work, path: &Path, touched: &mut bool, out: &mut Out) -> Outcome {
-    let mut opened = card_of(work, path, touched, out)?;
+fn one(work: &Work, path: &Path, medium: Option<Medium>, touched: &mut bool, out: &mut Out) -> Outcome {
+    let mut opened = card_of(work, path, medium, touched, out)?;
     let (shown, mut notes, mut changed) = (opened.shown(), Vec::new(), 0);
     let dry = opened.card.get_ref().is_dry();
     for line in &work.plan.lines {
@@ -166,8 +180,6 @@ fn screen(opened: &mut Opened, work: &Work) -> Outcome<String> {
         match opened.card.read_label(line.slot) {
             Err(error @ FileError::Io(_)) => return Err(io_words(&opened.path, error)),
             Err(FileError::Refused(refused)) if refused.refusal == Refusal::BadMark => {}
-            // A run in memory has no payload, so that of a map with a label of its own nothing is known yet.
-            _ if opened.card.get_ref().is_dry() && line.file.is_some() && line.label.is_none() => {}
             _ => judged.push(line.slot),
         }
     }
@@ -187,12 +199,13 @@ fn screen(opened: &mut Opened, work: &Work) -> Outcome<String> {
 }
 
 /// The card in a file, which is laid first where the plan asks for it and the file is none.
-fn card_of(work: &Work, path: &Path, touched: &mut bool, out: &mut Out) -> Outcome<Opened> {
+fn card_of(work: &Work, path: &Path, medium: Option<Medium>, touched: &mut bool, out: &mut Out) -> Outcome<Opened> {
     let Work { args, plan, access, .. } = *work;
     let shown = path.display().to_string();
-    let (medium, made) = match plan.lay {
-        true => medium_to_lay(args, path, work.size, access)?,
-        false => (Medium::open(path, access)?, false),
+    let (medium, made) = match (medium, plan.lay) {
+        (Some(medium), _) => (medium, false),
+        (None, true) => medium_to_lay(args, path, work.size, access)?,
+        (None, false) => (Medium::open(path, access)?, false),
     };
     let lock = medium.file().try_clone();
     let opened = opened_or_laid(work, medium, path, touched, out);
@@ -252,11 +265,8 @@ fn opened_or_laid(work: &Work, medium: Medium, path: &Path, touched: &mut bool, 
 /// Brings one slot to what its line says. Says what was done; nothing, where it was so already.
 fn slot(work: &Work, opened: &mut Opened, line: &Line, notes: &mut Vec<String>) -> Outcome<Vec<&'static str>> {
     let mut done = Vec::new();
-    let there = match line.slot {
-        1..=128 => opened.checked(opened.card.get(line.slot))?,
-        // The library refuses it in its own words.
-        _ => None,
-    };
+    // A slot that is none is refused by the put, in the library's words.
+    let there = if (1..=128).contains(&line.slot) { opened.checked(opened.card.get(line.slot))? } else { None };
     let record = match there.is_some_and(|record| as_planned(&record, line, opened.b())) {
         true => None,
         false => Some(record_for(opened, line, there)?),
@@ -266,7 +276,7 @@ fn slot(work: &Work, opened: &mut Opened, line: &Line, notes: &mut Vec<String>) 
         Some(file) => work.rehearsal || !stays || !same_bytes(opened, line, file)?,
         None => false,
     };
-    if stays && (record.is_some() || write) && line.label.is_some() {
+    if stays && write {
         unlabel(opened, line.slot)?;
     }
     if let Some(record) = record {
@@ -275,6 +285,8 @@ fn slot(work: &Work, opened: &mut Opened, line: &Line, notes: &mut Vec<String>) 
     }
     if let Some(file) = line.file.as_ref().filter(|_| write) {
         fits(opened, line, file)?;
+        // On other ground the label of a map before may stand.
+        unlabel(opened, line.slot)?;
         written(work, opened, line, file, notes)?;
         done.push("written");
     }
@@ -312,7 +324,14 @@ fn record_for(opened: &Opened, line: &Line, there: Option<Record>) -> Outcome<Re
         (Some(start), Some(blocks)) => Some((start, start.saturating_add(blocks - 1))),
         (Some(start), None) => Some((start, end_of_ground(&runs, there, start))),
         (None, Some(blocks)) => {
-            let kept = there.filter(|_| old.is_some_and(|old| old >= blocks)).map(|record| record.first);
+            let kept = there.filter(|record| end_of_ground(&runs, there, record.first) - record.first >= blocks - 1).map(|record| record.first);
+            if kept.is_none() && there.is_some() && line.file.is_none() {
+                let words = format!(
+                    "slot {} not put: it has no room for {blocks} blocks where it is, and the plan has no file to write elsewhere. Nothing was changed.",
+                    line.slot
+                );
+                return Err(Failure::Refused(words));
+            }
             kept.or_else(|| room_in(&runs, blocks, b)).map(|first| (first, first + (blocks - 1)))
         }
         (None, None) => runs
@@ -382,6 +401,10 @@ fn written(work: &Work, opened: &mut Opened, line: &Line, file: &Path, notes: &m
     let mut source = Source::file(file)?;
     if opened.card.get_ref().is_dry() {
         notes.push(payload::dry_note(opened, line.slot, line.at, source.length)?);
+        // Of the map only what stands at the label's place is kept, so that it can be judged.
+        let mut first = vec![0; 13u64.saturating_sub(line.at) as usize];
+        let count = source.fill(&mut first)?;
+        opened.card.write_payload(line.slot, line.at, &first[..count]).map_err(|error| io_words(&opened.path, error))?;
         return Ok(());
     }
     let mut progress = Progress::new(work.args, "written", source.length);

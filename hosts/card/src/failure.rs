@@ -27,6 +27,19 @@ impl Failure {
         }
     }
 
+    /// The same failure with one sentence more on what was left, before the number where there is one.
+    pub fn with(self, left: &str) -> Failure {
+        let added = |words: String| match words.rfind(" [") {
+            Some(place) => format!("{} {left}{}", &words[..place], &words[place..]),
+            None => format!("{}. {}", words.trim_end_matches('.'), left.trim_end_matches('.')),
+        };
+        match self {
+            Failure::Refused(words) => Failure::Refused(added(words)),
+            Failure::Io(words) => Failure::Io(added(words)),
+            other => other,
+        }
+    }
+
     /// The words that follow `card: `; `None` where the other end of a pipe has gone, which nobody is to be told.
     pub fn words(&self) -> Option<String> {
         match self {

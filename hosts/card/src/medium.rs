@@ -2,11 +2,13 @@
 use crate::failure::{io_failure, system_words, Failure, Outcome};
 use crate::system;
 use card::Device;
+use std::cell::Cell;
 use std::collections::BTreeMap;
 use std::fs::{self, File, FileType, OpenOptions};
 use std::io::{self, Read, Seek, SeekFrom, Write};
 use std::os::unix::fs::{FileExt, FileTypeExt, MetadataExt};
 use std::path::Path;
+use std::rc::Rc;
 
 /// The pieces in which a dry run keeps what would be written.
 const PIECE: u64 = 512;
@@ -19,8 +21,8 @@ pub struct Medium {
     length: Option<u64>,
     /// Whether each write is stored before the next one is taken.
     ordered: bool,
-    /// How many bytes were written in all.
-    written: u64,
+    /// How many bytes were written in all, by this and whatever looks at the same file.
+    written: Rc<Cell<u64>>,
     /// Whether this stands for a file that a dry run does not make.
     blank: bool,
     /// What a dry run would have written, by its piece of the file.
@@ -68,8 +70,15 @@ impl Medium {
         if let Some(what) = no_card(fs::metadata(path).map_err(failed)?.file_type()) {
             return Err(Failure::Io(format!("{shown} is {what}, not a card")));
         }
-        let file = OpenOptions::new().read(true).write(access.writes()).open(path).map_err(failed)?;
-        Medium::locked(file, &shown, access)
+        loop {
+            let file = OpenOptions::new().read(true).write(access.writes()).open(path).map_err(failed)?;
+            let medium = Medium::locked(file, &shown, access)?;
+            // While it was waited for, the file may have been removed, or another one put in its place.
+            let (ours, theirs) = (medium.file.metadata().map_err(failed)?, fs::metadata(path).map_err(failed)?);
+            if (ours.dev(), ours.ino()) == (theirs.dev(), theirs.ino()) {
+                return Ok(medium);
+            }
+        }
     }
 
     /// So many zero bytes, in place of a file that a dry run does not make: a file without a name, of which nothing is written.
@@ -90,7 +99,7 @@ impl Medium {
         let failed = |failure: io::Error| io_failure(shown, &failure);
         system::lock(&file, access.writes(), || eprintln!("card: waiting for {shown}, which another program has locked")).map_err(failed)?;
         let dry = access.is_dry().then(BTreeMap::new);
-        let medium = Medium { file, place: 0, length: None, ordered: false, written: 0, blank: false, dry };
+        let medium = Medium { file, place: 0, length: None, ordered: false, written: Rc::default(), blank: false, dry };
         if let Access::Write { mounted: false, .. } = access {
             if let Some(folder) = medium.mounted_at().map_err(failed)? {
                 return Err(Failure::Refused(format!("{shown} is mounted at {folder}. Nothing was changed. Unmount it, or say --mounted")));
@@ -136,13 +145,14 @@ impl Medium {
 
     /// The same file once more, as it is now, to look at in another way. A dry run's writes are seen there too.
     pub fn again(&self, length: Option<u64>) -> io::Result<Medium> {
-        Ok(Medium { file: self.file.try_clone()?, place: 0, length, ordered: false, written: 0, blank: self.blank, dry: self.dry.clone() })
+        Ok(Medium { file: self.file.try_clone()?, place: 0, length, ordered: false, written: self.written.clone(), blank: self.blank, dry: self.dry.clone() })
     }
 
     /// The same, with what is written kept in memory.
     pub fn again_in_memory(&self) -> io::Result<Medium> {
         let mut medium = self.again(self.length)?;
         medium.dry.get_or_insert_with(BTreeMap::new);
+        medium.written = Rc::default();
         Ok(medium)
     }
 
@@ -161,7 +171,12 @@ impl Medium {
 
     /// How many bytes were written in all, also by a write that failed in the middle.
     pub fn written(&self) -> u64 {
-        self.written
+        self.written.get()
+    }
+
+    /// The count itself, for who still asks when the medium is gone.
+    pub fn counter(&self) -> Rc<Cell<u64>> {
+        self.written.clone()
     }
 
     /// Whether nothing is written.
@@ -264,7 +279,7 @@ impl Write for Medium {
             return Err(io::Error::new(io::ErrorKind::InvalidData, "the system says that more bytes were written than there were"));
         }
         self.place += count as u64;
-        self.written += count as u64;
+        self.written.set(self.written.get() + count as u64);
         Ok(count)
     }
 

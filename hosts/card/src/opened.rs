@@ -13,6 +13,13 @@ pub struct Opened {
     writes: bool,
 }
 
+/// A card of fewer blocks than its file has: the card, its disk GUID, and the table that the reader takes of it.
+pub struct Shorter {
+    pub card: FileCard<Medium>,
+    pub guid: Guid,
+    pub table: Table,
+}
+
 /// The block size that was asked for.
 pub fn given_block_size(args: &Args) -> Outcome<Option<BlockSize>> {
     args.value("block-size", |text| {
@@ -137,8 +144,8 @@ impl Opened {
 
     /// What helps with a table that cannot be read. A front table that is good for a shorter file comes first: what stands at the end may be an older card's.
     fn next_step(&self) -> Outcome<Option<String>> {
-        if let Some((shorter, _)) = self.shorter()? {
-            return Ok(Some(format!("it is laid for {} blocks, and the file has {}: card grow {}", shorter.blocks(), self.card.blocks(), self.word())));
+        if let Some(shorter) = self.shorter()? {
+            return Ok(Some(format!("it is laid for {} blocks, and the file has {}: card grow {}", shorter.card.blocks(), self.card.blocks(), self.word())));
         }
         match self.reader_table()? {
             Some(Table::Front) => return Ok(Some(format!("the front is good: card repair {}", self.word()))),
@@ -168,24 +175,28 @@ impl Opened {
         self.card.get_ref().again(length).map_err(|failure| io_failure(&self.shown(), &failure))
     }
 
-    /// The card at the other block size, if the reader shows one there.
+    /// The card at the other block size, if the reader shows one there, at this length or a shorter one.
     pub fn at_other_size(&self) -> Outcome<Option<FileCard<Medium>>> {
         let Ok(other) = BlockSize::try_from(other_size(self.card.block_size())) else { return Ok(None) };
         let Some(card) = self.unless_refused(FileCard::open(self.again(None)?, other))? else { return Ok(None) };
-        Ok(self.unless_refused(card.reader_copy())?.map(|_| card))
+        let opened = Opened { path: self.path.clone(), card, writes: self.writes };
+        match opened.reader_table()? {
+            Some(_) => Ok(Some(opened.card)),
+            None => Ok(opened.shorter()?.map(|shorter| shorter.card)),
+        }
     }
 
-    /// The card that a front table for a shorter file describes, if that table is good for it, and its disk GUID.
-    pub fn shorter(&self) -> Outcome<Option<(FileCard<Medium>, Guid)>> {
+    /// The card that a front header for a shorter file describes, if the reader shows one at that length.
+    pub fn shorter(&self) -> Outcome<Option<Shorter>> {
         let head = self.card.head();
         // SAFETY: the pointer and the length are those of one slice, which is only read.
         let read = unsafe { ffi::gpt_read_primary_header(head.as_ptr(), head.len(), self.b()) };
         let blocks = (read.number == 0).then(|| read.header.backup_lba.checked_add(1)).flatten().filter(|blocks| *blocks < self.card.blocks());
         let Some(blocks) = blocks else { return Ok(None) };
         let Some(card) = self.unless_refused(FileCard::open(self.again(Some(blocks * self.b()))?, self.card.block_size()))? else { return Ok(None) };
-        let taken = self.unless_refused(card.reader_copy())?;
+        let Some(table) = self.unless_refused(card.reader_copy())? else { return Ok(None) };
         let ffi::gpt_guid { time_low, time_mid, time_high, tail } = read.header.disk_guid;
-        Ok((taken == Some(Table::Front)).then(|| (card, Guid::from_fields(time_low, time_mid, time_high, tail))))
+        Ok(Some(Shorter { card, guid: Guid::from_fields(time_low, time_mid, time_high, tail), table }))
     }
 
     /// What laying would drop: the used slots that the reader shows, at this length or a shorter one, at this block size or the other one, or that another maker's front table has.
@@ -193,7 +204,8 @@ impl Opened {
         if let Some(list) = self.unless_refused(self.card.reader_list())?.filter(|list| list.len() > 0) {
             return Ok(Some(format!("is a card with {}", count(list.len(), "used slot"))));
         }
-        if let Some(list) = self.shorter()?.map(|(card, _)| self.unless_refused(card.reader_list())).transpose()?.flatten().filter(|list| list.len() > 0) {
+        if let Some(list) = self.shorter()?.map(|shorter| self.unless_refused(shorter.card.reader_list())).transpose()?.flatten().filter(|list| list.len() > 0)
+        {
             return Ok(Some(format!("is a card of fewer blocks with {}", count(list.len(), "used slot"))));
         }
         if let Some(card) = self.at_other_size()? {

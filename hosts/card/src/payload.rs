@@ -13,6 +13,7 @@ use card::{crc32_next, FileError, Label, Record, Refusal, FRESH};
 use std::ffi::OsString;
 use std::fs::File;
 use std::io::{self, Read, Seek, SeekFrom};
+use std::os::unix::fs::FileTypeExt;
 use std::path::{Path, PathBuf};
 
 /// How many bytes are moved at once.
@@ -89,9 +90,11 @@ impl Source {
         if about.is_dir() {
             return Err(Failure::Io(format!("{name} is a directory, not a map")));
         }
-        let length = match about.is_file() {
-            true => Some(about.len()),
-            false => file.seek(SeekFrom::End(0)).and_then(|length| file.rewind().map(|()| length)).ok(),
+        // Some files of the system say that they are empty and have bytes; a device without blocks has no end.
+        let length = match (about.is_file(), about.file_type().is_block_device()) {
+            (true, _) => Some(about.len()).filter(|length| *length > 0),
+            (_, true) => Some(file.seek(SeekFrom::End(0)).and_then(|length| file.rewind().map(|()| length)).map_err(failed)?),
+            _ => None,
         };
         Ok(Source { name, from: Box::new(file), length, ahead: vec![] })
     }
@@ -105,6 +108,9 @@ impl Source {
         let count = self.fill(&mut chunk)?;
         chunk.truncate(count);
         self.ahead = chunk;
+        if count < CHUNK {
+            self.length = Some(count as u64);
+        }
         Ok(count as u64)
     }
 
@@ -130,6 +136,20 @@ impl Source {
 /// Where the source covers the label's place, a label that is there is first written over with zeros, and then, or where the source has a label, its own first bytes come last, each stored
 /// before the next: a card that is pulled meanwhile shows no map under another map's date.
 pub fn copy_in(opened: &mut Opened, slot: u32, at: u64, source: &mut Source, progress: &mut Progress) -> Outcome<(u64, u32)> {
+    let (before, mut held) = (opened.card.get_ref().written(), false);
+    copied(opened, slot, at, source, progress, &mut held).map_err(|failure| {
+        let touched = opened.card.get_ref().written() > before;
+        let left = match (touched, held) {
+            (false, _) => return failure,
+            (true, true) => format!("The first 13 bytes of slot {slot} are zeros, so that it has no date."),
+            (true, false) => format!("Slot {slot} is not written whole."),
+        };
+        failure.with(&left)
+    })
+}
+
+/// The same; says in `held` whether the label's place is still to be written.
+fn copied(opened: &mut Opened, slot: u32, at: u64, source: &mut Source, progress: &mut Progress, waits: &mut bool) -> Outcome<(u64, u32)> {
     let mut chunk = vec![0; CHUNK];
     let (mut done, mut sum, mut first) = (0, FRESH, Vec::new());
     loop {
@@ -143,6 +163,7 @@ pub fn copy_in(opened: &mut Opened, slot: u32, at: u64, source: &mut Source, pro
             let labelled = fits.and_then(|()| without_label(opened, slot)).map_err(|error| half_written(opened, slot, at, 0, count as u64, error))?;
             if labelled || chunk.starts_with(b"FBM") {
                 held = 13;
+                *waits = true;
                 first = chunk[..held].to_vec();
             }
         }
@@ -154,8 +175,7 @@ pub fn copy_in(opened: &mut Opened, slot: u32, at: u64, source: &mut Source, pro
     }
     opened.card.sync().map_err(|error| io_words(&opened.path, error))?;
     if !first.is_empty() {
-        store(opened, slot, at, 0, &first)?;
-        opened.card.sync().map_err(|error| io_words(&opened.path, error))?;
+        opened.card.write_payload(slot, 0, &first).and_then(|_| opened.card.sync()).map_err(|error| io_words(&opened.path, error))?;
     }
     Ok((done, sum))
 }
@@ -197,7 +217,9 @@ fn half_written(opened: &Opened, slot: u32, at: u64, done: u64, count: u64, erro
             Failure::Refused(format!("slot {slot} not written{whole}: {why}. {left} [{}]", refused.number()))
         }
         other => match io_words(&opened.path, other) {
-            Failure::Io(words) => Failure::Io(format!("{words}. Slot {slot} is not written whole: {done} bytes from place {at} on were written before")),
+            Failure::Io(words) if done > 0 => {
+                Failure::Io(format!("{words}. Slot {slot} is not written whole: {done} bytes from place {at} on were written before"))
+            }
             failure => failure,
         },
     }
@@ -239,6 +261,8 @@ pub fn wipe(opened: &mut Opened, slot: u32, record: &Record, args: &Args, notes:
         notes.push(dry_note(opened, slot, 0, Some(bytes))?);
         return Ok(());
     }
+    // The date goes first, so that no zeros stand under it.
+    without_label(opened, slot).map_err(|error| io_words(&opened.path, error))?;
     let (zeros, mut done) = (vec![0; CHUNK], 0);
     let mut progress = Progress::new(args, "wiped", Some(bytes));
     while done < bytes {
@@ -308,10 +332,10 @@ pub fn label(mut args: Args, out: &mut Out) -> Outcome {
         return dry::report(&opened.card, &opened.shown(), &[note], out);
     }
     out.changed = true;
-    let again = opened.card.read_label(slot).map_err(|error| label_failure(&mut opened, slot, error))?;
-    match again == label {
-        true => out.line(format!("slot {slot}: {}, written and verified", words::label(label))),
-        false => return Err(Failure::Io(format!("{}: slot {slot} reads back another label than was written", opened.shown()))),
+    match opened.card.read_label(slot) {
+        Ok(again) if again == label => out.line(format!("slot {slot}: {}, written and verified", words::label(label))),
+        Err(error @ FileError::Io(_)) => return Err(io_words(&opened.path, error)),
+        _ => return Err(Failure::Io(format!("{}: slot {slot} reads back another label than was written", opened.shown()))),
     }
     Ok(())
 }

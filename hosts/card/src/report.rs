@@ -4,10 +4,10 @@ use crate::drawn::{parts, Part};
 use crate::failure::{io_failure, Outcome};
 use crate::look::{name_of, warnings};
 use crate::medium::Access;
-use crate::opened::Opened;
+use crate::opened::{io_words, Opened};
 use crate::output::Out;
 use crate::words;
-use card::{ffi, Device, Entry, FileCard, Flags, Guid, Name, Record, Refused, Table};
+use card::{ffi, Device, Entry, FileCard, FileError, Flags, Guid, Name, Record, Refused, Table};
 use std::io::{Seek, SeekFrom, Write};
 use std::path::PathBuf;
 
@@ -141,7 +141,11 @@ fn alone(opened: &Opened, table: Table) -> Outcome<bool> {
     let other = if table == Table::Front { length - b } else { b };
     let blanked = medium.seek(SeekFrom::Start(other)).and_then(|_| medium.write_all(&vec![0; b as usize])).and_then(|()| medium.sync());
     blanked.map_err(|failure| io_failure(&shown, &failure))?;
-    Ok(FileCard::open(medium, opened.card.block_size()).is_ok_and(|card| card.reader_copy().is_ok_and(|taken| taken == table)))
+    let taken = FileCard::open(medium, opened.card.block_size()).and_then(|card| card.reader_copy());
+    match taken {
+        Err(error @ FileError::Io(_)) => Err(io_words(&opened.path, error)),
+        taken => Ok(taken.is_ok_and(|taken| taken == table)),
+    }
 }
 
 /// What an entry of an array says.

@@ -4,7 +4,7 @@ use crate::dry;
 use crate::failure::{io_failure, system_words, Failure, Outcome};
 use crate::look::name_of;
 use crate::medium::{drawn_guid, Access, Medium};
-use crate::opened::{block_size, given_block_size, io_words, shell_word, too_small, Opened};
+use crate::opened::{block_size, given_block_size, io_words, shell_word, too_small, Opened, Shorter};
 use crate::output::Out;
 use crate::payload;
 use crate::words::{self, quoted};
@@ -32,7 +32,7 @@ pub fn lay(mut args: Args, out: &mut Out) -> Outcome {
     };
     let (medium, made) = medium_to_lay(&args, &path, size, access(&args))?;
     // The lock is the file's as long as one descriptor of it is open: nobody else lays the file before it is removed again.
-    let lock = medium.file().try_clone();
+    let (lock, written, dry) = (medium.file().try_clone(), medium.counter(), medium.is_dry());
     let laid = laid(&args, medium, &path, size, guid, out);
     if laid.is_err() && made {
         // The failure that counts is the first one.
@@ -40,7 +40,7 @@ pub fn lay(mut args: Args, out: &mut Out) -> Outcome {
     }
     drop(lock);
     match laid {
-        Err(Failure::Io(words)) if !made => {
+        Err(Failure::Io(words)) if !made && !dry && written.get() > 0 => {
             Err(Failure::Io(format!("{words}. It may be laid in part: card show {} says what it shows; lay it again", shell_word(&path))))
         }
         laid => laid,
@@ -59,6 +59,8 @@ pub fn medium_to_lay(args: &Args, path: &Path, size: Option<u64>, access: Access
     };
     let failed = |failure: io::Error| io_failure(&shown, &failure);
     if access.is_dry() {
+        let folder = path.parent().filter(|folder| !folder.as_os_str().is_empty()).unwrap_or(Path::new("."));
+        fs::metadata(folder).map_err(failed)?;
         return Ok((Medium::blank(size, access)?, false));
     }
     let file = OpenOptions::new().read(true).write(true).create_new(true).open(path).map_err(failed)?;
@@ -228,24 +230,27 @@ pub struct Carried {
 }
 
 /// Makes the stages that are left, through a given one. What fails is said with the stage.
-pub fn carry(staged: FileStaged<'_, Medium>, shown: &str, last: u32) -> Outcome<Carried> {
+pub fn carry(staged: FileStaged<'_, Medium>, shown: &str, last: u32, dry: bool) -> Outcome<Carried> {
     let stages = staged.stages();
     let mut stage = staged.stage();
     let mut step = Some(staged);
     while stage < last.min(stages) {
         let Some(staged) = step else { break };
-        step = staged.next().map_err(|error| cut(shown, stage + 1, stages, &error))?;
+        step = staged.next().map_err(|error| cut(shown, stage + 1, stages, &error, dry))?;
         stage += 1;
     }
     Ok(Carried { stage, stages })
 }
 
 /// An update that could not go on.
-fn cut(shown: &str, stage: u32, stages: u32, error: &FileError) -> Failure {
+fn cut(shown: &str, stage: u32, stages: u32, error: &FileError, dry: bool) -> Failure {
     let words = match error {
         FileError::Io(failure) => system_words(failure),
         other => other.to_string(),
     };
+    if dry {
+        return Failure::Io(format!("{shown}: {words}. Nothing was changed"));
+    }
     let word = shell_word(Path::new(shown));
     let next = match stage {
         1 => format!("The reader shows the old table; card check {word} says whether the card has to be repaired"),
@@ -255,9 +260,14 @@ fn cut(shown: &str, stage: u32, stages: u32, error: &FileError) -> Failure {
 }
 
 /// What a call that begins an update comes to: refused in its own words, or failed at stage 1.
-pub fn begun<'a>(result: Result<FileStaged<'a, Medium>, FileError>, shown: &str, stages: u32) -> Result<Result<FileStaged<'a, Medium>, FileError>, Failure> {
+pub fn begun<'a>(
+    result: Result<FileStaged<'a, Medium>, FileError>,
+    shown: &str,
+    stages: u32,
+    dry: bool,
+) -> Result<Result<FileStaged<'a, Medium>, FileError>, Failure> {
     match result {
-        Err(error @ FileError::Io(_)) => Err(cut(shown, 1, stages, &error)),
+        Err(error @ FileError::Io(_)) => Err(cut(shown, 1, stages, &error, dry)),
         other => Ok(other),
     }
 }
@@ -337,9 +347,10 @@ fn put_words(slot: u32, record: &Record, b: u64) -> String {
 /// Puts a record in stages, through one of them.
 pub fn put_record(opened: &mut Opened, slot: u32, record: &Record, last: u32) -> Outcome<Carried> {
     let shown = opened.shown();
-    let result = begun(opened.card.start_put(slot, record), &shown, 4)?;
+    let dry = opened.card.get_ref().is_dry();
+    let result = begun(opened.card.start_put(slot, record), &shown, 4, dry)?;
     match result {
-        Ok(staged) => carry(staged, &shown, last),
+        Ok(staged) => carry(staged, &shown, last, dry),
         Err(error) => {
             Err(opened.failure(error, |refusal| format!("slot {slot} not put: {}. Nothing was changed.", put_refusal(opened, slot, record, refusal))))
         }
@@ -449,9 +460,12 @@ pub fn clear(mut args: Args, out: &mut Out) -> Outcome {
         out.changed = true;
     }
     let shown = opened.shown();
-    let result = begun(opened.card.start_clear(slot), &shown, 4)?;
+    let dry = opened.card.get_ref().is_dry();
+    let zeros = format!("The bytes of slot {slot} are zeros already.");
+    let wiped = |failure: Failure| if args.has("wipe") && !dry { failure.with(&zeros) } else { failure };
+    let result = begun(opened.card.start_clear(slot), &shown, 4, dry).map_err(wiped)?;
     let carried = match result {
-        Ok(staged) => carry(staged, &shown, last)?,
+        Ok(staged) => carry(staged, &shown, last, dry).map_err(wiped)?,
         Err(error) => return Err(opened.failure(error, said)),
     };
     if opened.card.get_ref().is_dry() {
@@ -487,11 +501,12 @@ pub fn repair(mut args: Args, out: &mut Out) -> Outcome {
     }
     let other = if from == Table::Front { Table::Back } else { Table::Front };
     let (from, other) = (name_of(from), name_of(other));
-    let staged = match begun(opened.card.start_repair(), &shown, stages)? {
+    let dry = opened.card.get_ref().is_dry();
+    let staged = match begun(opened.card.start_repair(), &shown, stages, dry)? {
         Ok(staged) => staged,
         Err(error) => return Err(io_words(&opened.path, error)),
     };
-    let Carried { stage, .. } = carry(staged, &shown, last)?;
+    let Carried { stage, .. } = carry(staged, &shown, last, dry)?;
     if opened.card.get_ref().is_dry() {
         return dry::report(&opened.card, &shown, &[], out);
     }
@@ -507,7 +522,7 @@ pub fn repair(mut args: Args, out: &mut Out) -> Outcome {
 
 /// A card that was copied onto a longer one has a front table for fewer blocks, and at the end may stand the back table of the card before: to repair from that one would bring back its slots.
 fn not_an_older_back(opened: &Opened, from: Table) -> Outcome {
-    let Some((shorter, _)) = opened.shorter()? else { return Ok(()) };
+    let Some(Shorter { card: shorter, .. }) = opened.shorter()? else { return Ok(()) };
     let entries = |card: &FileCard<Medium>| card.reader_list().map(|list| list.collect::<Vec<Entry>>()).map_err(|error| io_words(&opened.path, error));
     if from == Table::Front || entries(&shorter)? == entries(&opened.card)? {
         return Ok(());
@@ -533,13 +548,20 @@ pub fn grow(mut args: Args, out: &mut Out) -> Outcome {
         out.line(format!("nothing to grow: the card has all {} blocks of the file", opened.card.blocks()));
         return nothing_to_do(&opened, out);
     }
-    let Some((before, guid)) = opened.shorter()? else {
+    let Some(Shorter { card: before, guid, table }) = opened.shorter()? else {
         let hint = match opened.at_other_size()? {
             Some(card) => format!(" A card with blocks of {} bytes is there: try -b {}", card.block_size().bytes(), card.block_size().bytes()),
             None => String::new(),
         };
         return Err(Failure::Refused(format!("{shown} not grown: it has no front table that is good for a shorter file. Nothing was changed.{hint}")));
     };
+    if table == Table::Back {
+        return Err(Failure::Refused(format!(
+            "{shown} not grown: at its {} blocks the card was pulled, and only its back table is good. Nothing was changed. Shorten the file to {} bytes, repair it, and lengthen it again",
+            before.blocks(),
+            before.blocks() * opened.b()
+        )));
+    }
     let entries: Vec<Entry> = before.reader_list().map_err(|error| io_words(&opened.path, error))?.collect();
     let (old, slots) = (before.blocks(), entries.len());
     let grown = grown(&opened, guid, &entries)?;
