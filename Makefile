@@ -77,8 +77,7 @@ target/lib/libcard.so.0: target/lib/libcard.so
 card: lib
 	@mkdir -p target/card
 	@cd hosts/card && CARD_LIB_DIR=../../target/lib CARGO_TARGET_DIR=../../target/rust-card cargo build --release --offline --locked >../../target/card.log 2>&1 || { cat ../../target/card.log; exit 1; }
-	@cp "$$(find target/rust-card -path '*/release/card' -type f | head -n 1)" target/card/new
-	@if cmp -s target/card/new target/card/card; then rm target/card/new; else mv target/card/new target/card/card; fi
+	@new=$$(mktemp target/card/new.XXXXXX) && cp "$$(find target/rust-card -path '*/release/card' -type f | head -n 1)" "$$new" && if cmp -s "$$new" target/card/card; then rm "$$new"; else chmod 755 "$$new" && mv "$$new" target/card/card; fi
 	@echo "target/card/card"
 
 # Tries every command of card, every refusal's words and every exit status, on files of any size, on failing input and output, and beside other tools (tests/card). Variables: SEED.
