@@ -83,7 +83,7 @@ module _ (B N : ℕ) (head tail all ls : List ℕ) where
 
 -- ---- a slot that was named before, and what is handed in for it again
 
-module _ (before after : List ℕ) (s : ℕ) (m : List·Memᴰ s before) (ks l ms : List ℕ) (p : length ks ≡ 13 * length before) (q : length l ≡ 13) where
+module _ (B N : ℕ) (head tail before after : List ℕ) (s : ℕ) (m : List·Memᴰ s before) (ks l ms : List ℕ) (p : length ks ≡ 13 * length before) (q : length l ≡ 13) where
   -- a slot that is not named before has its first place after both
   first-beyond : (t : ℕ) → length before ≤ firstPlace before t → firstPlace (s ∷ after) t ≡ suc (firstPlace after t)
   unfolding firstPlace
@@ -127,18 +127,17 @@ module _ (before after : List ℕ) (s : ℕ) (m : List·Memᴰ s before) (ks l m
       (λ e. let h = eqb-true (length (ks ++ ms)) (13 * length (before ++ after)) e in eq-eqb (length (ks ++ (l ++ ms))) (13 * length (before ++ (s ∷ after))) (omega (arith, a, b, c, x, y, h, q)) ∙ sym e)
       (λ e. let h = eqb-false (length (ks ++ ms)) (13 * length (before ++ after)) e in ne-eqb (length (ks ++ (l ++ ms))) (13 * length (before ++ (s ∷ after))) (λ z. h (omega (arith, a, b, c, x, y, z, q))) ∙ sym e)
 
-  module _ (B N : ℕ) (head tail : List ℕ) where
-    judged-same : judgeFrom agreed.Nothing (handedFrom B N head tail (before ++ (s ∷ after)) (ks ++ (l ++ ms)) (before ++ (s ∷ after)))
-        ≡ judgeFrom agreed.Nothing (handedFrom B N head tail (before ++ after) (ks ++ ms) (before ++ after))
-    unfolding handedFrom
-    judged-same =
-        let all = before ++ (s ∷ after) in
-        let ls = ks ++ (l ++ ms) in
-        ap (λ (r : List Shown). judgeFrom agreed.Nothing r) (handed-append B N head tail all ls before (s ∷ after))
-        ∙ again agreed.Nothing (handedFrom B N head tail all ls before) (handedFrom B N head tail all ls after) (handed B N head tail all ls s) (handed-mem B N head tail all ls before m)
-        ∙ ap (λ (r : List Shown). judgeFrom agreed.Nothing r) (sym (handed-append B N head tail all ls before after) ∙ handed-same B N head tail all ls (before ++ after) (ks ++ ms) same-bytes (before ++ after))
+  judged-same : judgeFrom agreed.Nothing (handedFrom B N head tail (before ++ (s ∷ after)) (ks ++ (l ++ ms)) (before ++ (s ∷ after)))
+      ≡ judgeFrom agreed.Nothing (handedFrom B N head tail (before ++ after) (ks ++ ms) (before ++ after))
+  unfolding handedFrom
+  judged-same =
+      let all = before ++ (s ∷ after) in
+      let ls = ks ++ (l ++ ms) in
+      ap (λ (r : List Shown). judgeFrom agreed.Nothing r) (handed-append B N head tail all ls before (s ∷ after))
+      ∙ again agreed.Nothing (handedFrom B N head tail all ls before) (handedFrom B N head tail all ls after) (handed B N head tail all ls s) (handed-mem B N head tail all ls before m)
+      ∙ ap (λ (r : List Shown). judgeFrom agreed.Nothing r) (sym (handed-append B N head tail all ls before after) ∙ handed-same B N head tail all ls (before ++ after) (ks ++ ms) same-bytes (before ++ after))
 
-    -- A slot that was named before can be left out with its 13 bytes, whatever they are, of any list, accepted or refused: it is judged as one.
-    pub handed-as-one : handedSet B N head tail (before ++ (s ∷ after)) (ks ++ (l ++ ms)) ≡ handedSet B N head tail (before ++ after) (ks ++ ms)
-    unfolding handedSet
-    handed-as-one = rw (neither-empty, both-13, judged-same)
+  -- A slot that was named before can be left out with its 13 bytes, whatever they are, of any list, accepted or refused: it is judged as one.
+  pub handed-as-one : handedSet B N head tail (before ++ (s ∷ after)) (ks ++ (l ++ ms)) ≡ handedSet B N head tail (before ++ after) (ks ++ ms)
+  unfolding handedSet
+  handed-as-one = rw (neither-empty, both-13, judged-same)
