@@ -1,0 +1,2 @@
+-- The laws of the definitions of `guid_text`.
+pub mod Laws

@@ -1,0 +1,28 @@
+-- Hexadecimal digits, written in lower case and read in either (RFC 9562, section 4). Assumes nothing.
+use mathlib.Core.Bool.{Bool, false}
+use mathlib.Core.List.{List, [], _∷_, _++_}
+use Prim.Native.Nat.{ℕ, zero, suc, _+_, _*_, _-_, _/_, _%_}
+use lib.Dec.{ltb, leb}
+use Rattle.units.specs.Answer.{pick}
+
+-- the digit of a value below 16, in lower case
+unfoldable pub hexDigit : ℕ → ℕ
+hexDigit v = pick (ltb v 10) (48 + v) (87 + v)
+
+-- the n low digits of x, the highest first
+unfoldable pub hex : ℕ → ℕ → List ℕ
+hex zero x = []
+hex (suc n) x = hex n (x / 16) ++ (hexDigit (x % 16) ∷ [])
+
+-- a byte from lo on to hi
+unfoldable pub between : ℕ → ℕ → ℕ → Bool
+between lo hi c = pick (ltb c lo) false (leb c hi)
+
+-- what a digit of either case stands for, 0 to 9, A to F or a to f; 16 for what is no digit
+unfoldable pub digitValue : ℕ → ℕ
+digitValue c = pick (between 48 57 c) (c - 48) (pick (between 65 70 c) (c - 55) (pick (between 97 102 c) (c - 87) 16))
+
+-- the number that digits stand for, the highest first, behind what was read before them; what is no digit counts as 0
+unfoldable pub hexAfter : ℕ → List ℕ → ℕ
+hexAfter v [] = v
+hexAfter v (c ∷ cs) = hexAfter (v * 16 + digitValue c % 16) cs
