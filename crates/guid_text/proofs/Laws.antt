@@ -1,7 +1,6 @@
 -- Laws of hexadecimal digits and of a GUID's text. Assumes nothing.
 use mathlib.Core.Path.{_≡_, refl, sym, ap, _∙_}
 use mathlib.Core.Bool.{Bool, true, false, not}
-use mathlib.Core.Logic.{_⊎_, inl, inr}
 use mathlib.Core.List.{List, [], _∷_, _++_}
 use Prim.Native.Nat.{ℕ, zero, suc, _+_, _*_, _-_, _/_, _%_, _^_, _≤_, _<_}
 use native.Mathlib.Nat.{pow-suc, pow-le-pow-right}
@@ -14,34 +13,16 @@ use Rattle.units.specs.declared.Guid.{Guid}
 use Rattle.units.specs.Answer.{pick}
 use Rattle.units.specs.Bytes.{part}
 use Rattle.units.proofs.Laws.{by-pick}
-use Rattle.units.proofs.Lists.{sets-comm, sets-then, and-then, sets-all, part-step}
-use Rattle.guid_text.specs.Hex.{hexDigit, hex, between, digitValue, hexAfter}
+use Rattle.units.proofs.Lists.{and-then, sets-all, part-step}
+use Rattle.text.specs.Digits.{digits}
+use Rattle.text.proofs.Laws.{length-digits}
+use Rattle.guid_text.specs.Hex.{between, digitValue, hexAfter}
 use Rattle.guid_text.specs.GuidTexts.{dash, group, clockOf, nodeOf, guidText, dashPlace, rightAt, wrongFrom}
 
--- ---- digits that are written
+-- ---- a group of digits
 
-pub length-hex : (n x : ℕ) → length (hex n x) ≡ n
-unfolding hex
-length-hex zero x = refl
-length-hex (suc n) x = rw (length-append (hex n (x / 16)) (hexDigit (x % 16) ∷ [])) (omega (arith, length-hex n (x / 16)))
-
--- the last digit is stored before those in front of it
-pub digit-first : (s : List ℕ) (at i v : ℕ) → 0 < i → sets (set s (at + (i - 1)) (hexDigit (v % 16))) at (hex (i - 1) (v / 16)) ≡ sets s at (hex i v)
-unfolding hex
-digit-first s at zero v h = absurd (omega (arith, h))
-digit-first s at (suc j) v h =
-    let zs = hex j (v / 16) in
-    let ds = hexDigit (v % 16) ∷ [] in
-    let e : length zs ≡ j = length-hex j (v / 16) in
-    let k : suc j - 1 ≡ j = omega arith in
-    rw k (sets-comm s (at + j) ds at zs (inr (omega arith)) ∙ sets-then s at zs (at + j) ds (omega arith))
-
-pub no-digits : (s : List ℕ) (at v : ℕ) → sets s at (hex 0 v) ≡ s
-unfolding hex
-no-digits s at v = refl
-
-pub group-stored : (s : List ℕ) (at n x : ℕ) {s₁ : List ℕ} → s₁ ≡ sets s at (hex n x) → set s₁ (at + n) dash ≡ sets s at (group n x)
-group-stored s at n x e = and-then s at (hex n x) (at + n) (dash ∷ []) (omega (arith, length-hex n x)) e refl
+pub group-stored : (s : List ℕ) (at n x : ℕ) {s₁ : List ℕ} → s₁ ≡ sets s at (digits 16 n x) → set s₁ (at + n) dash ≡ sets s at (group n x)
+group-stored s at n x e = and-then s at (digits 16 n x) (at + n) (dash ∷ []) (omega (arith, length-digits 16 n x)) e refl
 
 -- ---- digits that are read
 
@@ -105,15 +86,15 @@ all-right text i h = let z : 36 - i ≡ 0 = omega arith in rw z
 -- ---- the whole text
 
 length-group : (n x : ℕ) → length (group n x) ≡ n + 1
-length-group n x = length-append (hex n x) (dash ∷ []) ∙ rw (length-hex n x)
+length-group n x = length-append (digits 16 n x) (dash ∷ []) ∙ rw (length-digits 16 n x)
 
 pub length-text : (g : Guid) → length (guidText g) ≡ 36
 unfolding guidText
-length-text g = simp (length-append, length-hex)
+length-text g = simp (length-append, length-digits)
 
 -- five groups stored one behind the other are the text
 pub text-made : (g : Guid) (s₀ s₁ s₂ s₃ s₄ s₅ : List ℕ) → length s₀ ≡ 36 → s₁ ≡ sets s₀ 0 (group 8 (g .«time_low»)) → s₂ ≡ sets s₁ 9 (group 4 (g .«time_mid»))
-    → s₃ ≡ sets s₂ 14 (group 4 (g .«time_high»)) → s₄ ≡ sets s₃ 19 (group 4 (clockOf (g .tail))) → s₅ ≡ sets s₄ 24 (hex 12 (nodeOf (g .tail))) → s₅ ≡ guidText g
+    → s₃ ≡ sets s₂ 14 (group 4 (g .«time_high»)) → s₄ ≡ sets s₃ 19 (group 4 (clockOf (g .tail))) → s₅ ≡ sets s₄ 24 (digits 16 12 (nodeOf (g .tail))) → s₅ ≡ guidText g
 unfolding guidText
 text-made g s₀ s₁ s₂ s₃ s₄ s₅ h e₁ e₂ e₃ e₄ e₅ =
     let f₄ = and-then s₃ 19 (group 4 (clockOf (g .tail))) 24 _ (rw (length-group 4 (clockOf (g .tail)))) e₄ e₅ in

@@ -1,27 +1,17 @@
 -- The definitions on texts from outside: the type of an EFI system partition as UEFI 2.10, table 5-7, gives it, the example of RFC 9562, appendix A.1, in upper case, and texts that are no GUIDs. Assumes nothing.
 use mathlib.Core.Path.{_≡_, refl}
-use mathlib.Core.List.{List, [], _∷_}
-use Prim.Native.Nat.{ℕ, zero, suc, _+_}
-use Prim.Native.String.{String, len, charAt}
-use Prim.Native.Char.{code}
 use Rattle.units.specs.declared.Guid.{Guid}
+use Rattle.text.specs.Digits.{digitOf, digits}
+use Rattle.text.specs.Texts.{ascii}
 use Rattle.guid_text.specs.declared.GuidOfText.{GuidOfText}
 use Rattle.guid_text.specs.GuidTexts.{big, guidText, dashPlace, rightAt, wrongFrom, tailIn, guidIn, guidOfText, badGuid}
-use Rattle.guid_text.specs.Hex.{hexDigit, hex, between, digitValue, hexAfter}
-
--- the bytes of a text of plain characters
-abbrev asciiFrom : String → ℕ → ℕ → List ℕ
-asciiFrom s i zero = []
-asciiFrom s i (suc n) = code (charAt s i) ∷ asciiFrom s (i + 1) n
-
-abbrev ascii : String → List ℕ
-ascii s = asciiFrom s 0 (len s)
+use Rattle.guid_text.specs.Hex.{between, digitValue, hexAfter}
 
 abbrev systemPartition : Guid
 systemPartition = record { «time_low» = 0xC12A7328; «time_mid» = 0xF81F; «time_high» = 0x11D2; tail = record { 0 = 0xBA; 1 = 0x4B; 2 = 0x00; 3 = 0xA0; 4 = 0xC9; 5 = 0x3E; 6 = 0xC9; 7 = 0x3B } }
 
 pub writes-lower-case : guidText systemPartition ≡ ascii "c12a7328-f81f-11d2-ba4b-00a0c93ec93b"
-unfolding guidText hex hexDigit big
+unfolding guidText digits digitOf big
 writes-lower-case = refl
 
 pub reads-upper-case : guidOfText (ascii "C12A7328-F81F-11D2-BA4B-00A0C93EC93B") ≡ record { number = 0; at = 0; guid = systemPartition }

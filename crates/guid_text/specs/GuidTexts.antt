@@ -10,8 +10,9 @@ use Rattle.units.specs.declared.Guid.{Guid}
 use Rattle.units.specs.Answer.{pick}
 use Rattle.units.specs.Bytes.{part}
 use Rattle.units.specs.Guids.{nilGuid}
+use Rattle.text.specs.Digits.{digits}
 use Rattle.guid_text.specs.declared.GuidOfText.{GuidOfText}
-use Rattle.guid_text.specs.Hex.{hex, digitValue, hexAfter}
+use Rattle.guid_text.specs.Hex.{digitValue, hexAfter}
 
 abbrev pub dash : ℕ
 dash = 45
@@ -23,7 +24,7 @@ big (b ∷ bs) v = big bs (v * 256 + b)
 
 -- a group of digits with a dash behind it
 abbrev pub group : ℕ → ℕ → List ℕ
-group n x = hex n x ++ (dash ∷ [])
+group n x = digits 16 n x ++ (dash ∷ [])
 
 abbrev pub clockOf : Tail → ℕ
 clockOf t = big (t .0 ∷ t .1 ∷ []) 0
@@ -32,7 +33,7 @@ abbrev pub nodeOf : Tail → ℕ
 nodeOf t = big (t .2 ∷ t .3 ∷ t .4 ∷ t .5 ∷ t .6 ∷ t .7 ∷ []) 0
 
 unfoldable pub guidText : Guid → List ℕ
-guidText g = group 8 (g .«time_low») ++ (group 4 (g .«time_mid») ++ (group 4 (g .«time_high») ++ (group 4 (clockOf (g .tail)) ++ hex 12 (nodeOf (g .tail)))))
+guidText g = group 8 (g .«time_low») ++ (group 4 (g .«time_mid») ++ (group 4 (g .«time_high») ++ (group 4 (clockOf (g .tail)) ++ digits 16 12 (nodeOf (g .tail)))))
 
 -- the places of the four dashes
 unfoldable pub dashPlace : ℕ → Bool

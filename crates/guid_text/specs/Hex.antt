@@ -1,18 +1,9 @@
--- Hexadecimal digits, written in lower case and read in either (RFC 9562, section 4). Assumes nothing.
+-- Hexadecimal digits that are read, of either case (RFC 9562, section 4). Assumes nothing.
 use mathlib.Core.Bool.{Bool, false}
-use mathlib.Core.List.{List, [], _∷_, _++_}
-use Prim.Native.Nat.{ℕ, zero, suc, _+_, _*_, _-_, _/_, _%_}
+use mathlib.Core.List.{List, [], _∷_}
+use Prim.Native.Nat.{ℕ, _+_, _*_, _-_, _%_}
 use lib.Dec.{ltb, leb}
 use Rattle.units.specs.Answer.{pick}
-
--- the digit of a value below 16, in lower case
-unfoldable pub hexDigit : ℕ → ℕ
-hexDigit v = pick (ltb v 10) (48 + v) (87 + v)
-
--- the n low digits of x, the highest first
-unfoldable pub hex : ℕ → ℕ → List ℕ
-hex zero x = []
-hex (suc n) x = hex n (x / 16) ++ (hexDigit (x % 16) ∷ [])
 
 -- a byte from lo on to hi
 unfoldable pub between : ℕ → ℕ → ℕ → Bool

@@ -1,45 +1,21 @@
 // Leaves for our own crates: each `requires` is a range that its caller has tested. No public calls.
 use crate::GuidOfText;
+use text::inner::put_digits;
 use units::Guid;
 use units::Tail;
 ghost use mathlib.Core.Path.{_≡_};
 ghost use Prim.Native.Nat.{_+_, _^_, _≤_, _<_};
 ghost use lib.ListN.{length};
 ghost use lib.Seq.{sets};
-ghost use Rattle.guid_text.specs.Hex.{hexDigit, hex, between, digitValue};
+ghost use Rattle.guid_text.specs.Hex.{between, digitValue};
 ghost use Rattle.guid_text.specs.GuidTexts.{group, clockOf, nodeOf, guidText, dashPlace, rightAt, wrongFrom, hexIn, tailIn, guidIn, badGuid};
 
-// The digit of a value below 16.
-pub fn hex_digit(v: u8) -> u8
-    requires { ⌜ v < 16 ⌝ }
-    ensures { λ r. ⌜ r ≡ hexDigit v ⌝ }
-{
-    if v < 10 {
-        return 48 + v;
-    }
-    87 + v
-}
-
-// The n low hexadecimal digits of x, the highest first, stored at place at.
-pub fn put_hex(s: &mut [u8], at: usize, n: usize, x: u64)
-    requires { ⌜ at + n ≤ length (now s) ⌝ }
-    ensures { λ _. ⌜ now (s .exit) ≡ sets (now (s .entry)) at (hex n x) ⌝ }
-{
-    let mut v = x;
-    let mut i = n;
-    while 0 < i {
-        i -= 1;
-        s[at + i] = hex_digit((v % 16) as u8);
-        v /= 16;
-    }
-}
-
-// The same with a dash behind the digits.
+// The n low hexadecimal digits of x, stored at place at, with a dash behind them.
 fn put_group(s: &mut [u8], at: usize, n: usize, x: u64)
     requires { ⌜ at + n < length (now s) ⌝ }
     ensures { λ _. ⌜ now (s .exit) ≡ sets (now (s .entry)) at (group n x) ⌝ }
 {
-    put_hex(s, at, n, x);
+    put_digits(s, at, 16, n, x);
     s[at + n] = b'-';
 }
 
@@ -66,7 +42,7 @@ pub fn put_guid_text(s: &mut [u8; 36], guid: Guid)
     put_group(s, 9, 4, guid.time_mid as u64);
     put_group(s, 14, 4, guid.time_high as u64);
     put_group(s, 19, 4, clock(t));
-    put_hex(s, 24, 12, node(t));
+    put_digits(s, 24, 16, 12, node(t));
 }
 
 // Whether a byte is one from lo on to hi.

@@ -1,4 +1,6 @@
-// A text for people, handed over in bytes that the caller lends, with a zero behind it as C expects.
+// A text for people, handed over in bytes that the caller lends, with a zero behind it as C expects. `inner` has the digits of numbers.
+pub mod inner;
+
 use units::Refusal;
 use units::Stored;
 ghost use Rattle.units.specs.Answer.{Ends};

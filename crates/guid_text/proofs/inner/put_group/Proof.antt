@@ -6,8 +6,8 @@ use borrow.Author.Needs.{needs}
 use Rattle.guid_text.proofs.inner.put_group.Statement.{statement}
 use Rattle.guid_text.proofs.inner.put_group.Tie as tie
 
-put-hex-requires : tie.Need-put-hex-requires
-put-hex-requires c κs = search needs
+put-digits-requires : tie.Need-put-digits-requires
+put-digits-requires c κs = search needs
 
 add-s : tie.Need-add-s
 add-s c = search needs
@@ -19,7 +19,7 @@ same-length : tie.Need-same-length
 same-length c = search needs
 
 returns : tie.Need-returns
-returns c = group-stored _ _ _ _ (c .before .before .put-hex .ensures)
+returns c = group-stored _ _ _ _ (c .before .before .put-digits .ensures)
 
 pub put-group-spec : {M : Type 1} → statement M
-put-group-spec = tie.close (tie.spec put-hex-requires add-s slice-write-s same-length returns)
+put-group-spec = tie.close (tie.spec put-digits-requires add-s slice-write-s same-length returns)

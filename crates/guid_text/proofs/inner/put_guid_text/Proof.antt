@@ -31,8 +31,8 @@ put-group-requires-4 c κs = search needs
 node-requires : tie.Need-node-requires
 node-requires c κs = search needs
 
-put-hex-requires : tie.Need-put-hex-requires
-put-hex-requires c κs = search needs
+put-digits-requires : tie.Need-put-digits-requires
+put-digits-requires c κs = search needs
 
 returns : tie.Need-returns
 returns c =
@@ -43,7 +43,7 @@ returns c =
     (c .before .before .before .before .before .before .before .before .before .put-group2 .ensures)
     (c .before .before .before .before .before .before .put-group3 .ensures)
     (rw (c .before .before .before .before .clock .ensures) at (c .before .before .before .put-group4 .ensures))
-    (rw (c .before .node .ensures) at (c .put-hex .ensures))
+    (rw (c .before .node .ensures) at (c .put-digits .ensures))
 
 pub put-guid-text-spec : {M : Type 1} → statement M
 put-guid-text-spec =
@@ -58,5 +58,5 @@ put-guid-text-spec =
     clock-requires
     put-group-requires-4
     node-requires
-    put-hex-requires
+    put-digits-requires
     returns)
