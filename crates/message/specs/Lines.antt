@@ -1,10 +1,14 @@
 -- Lines in a list of bytes, each ended by a line feed, 10. Assumes nothing.
 use mathlib.Core.List.{List, [], _∷_, _++_}
-use Prim.Native.Nat.{ℕ, zero, suc}
+use Prim.Native.Nat.{ℕ, zero, suc, _-_}
 use Prim.Native.String.{String}
 use lib.Dec.{eqb}
 use Rattle.units.specs.Answer.{pick}
 use Rattle.text.specs.Texts.{ascii}
+
+-- of lines that are still to pass, how many are left behind a byte
+abbrev pub leftBehind : ℕ → ℕ → ℕ
+leftBehind left c = pick (eqb c 10) (left - 1) left
 
 -- what stands behind the first k lines
 unfoldable pub behind : ℕ → List ℕ → List ℕ

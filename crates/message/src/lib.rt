@@ -5,7 +5,7 @@ mod slots; // slots.rt: the slot behind a line
 use text::deliver;
 use units::Stored;
 ghost use mathlib.Core.Path.{_≡_};
-ghost use Prim.Native.Nat.{_≤_};
+ghost use Prim.Native.Nat.{_≤_, _<_};
 ghost use lib.ListN.{length};
 ghost use lib.Seq.{sets};
 ghost use Rattle.units.specs.Answer.{Ends};
@@ -15,8 +15,8 @@ ghost use Rattle.message.specs.Words.{placedLine, disagreeLine, lineFor,
 
 // The line of a number with the place 1 or 2: the front table's or the back one's.
 fn placed_line(number: u32, place: u32) -> u32
-    requires { ⌜ place ≤ 2 ⌝ }
-    ensures { λ r. ⌜ r ≡ placedLine number place ⌝ }
+    requires { ⌜ (number ≤ 40) × (place ≤ 2) ⌝ }
+    ensures { λ r. ⌜ (r ≡ placedLine number place) × (r < 52) ⌝ }
 {
     if number == 4 {
         return 41 + place;
@@ -35,7 +35,7 @@ fn placed_line(number: u32, place: u32) -> u32
 
 // The line of 17.
 fn disagree_line(place: u32) -> u32
-    ensures { λ r. ⌜ r ≡ disagreeLine place ⌝ }
+    ensures { λ r. ⌜ (r ≡ disagreeLine place) × (r < 52) ⌝ }
 {
     if place == 3 {
         return 50;
@@ -48,7 +48,7 @@ fn disagree_line(place: u32) -> u32
 
 // The line of a number and the place that it names.
 fn line_for(number: u32, place: u32) -> u32
-    ensures { λ r. ⌜ r ≡ lineFor number place ⌝ }
+    ensures { λ r. ⌜ (r ≡ lineFor number place) × (r < 52) ⌝ }
 {
     if 40 < number {
         return 41;

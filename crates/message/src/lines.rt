@@ -4,8 +4,19 @@ ghost use Prim.Native.Nat.{_+_, _-_, _≤_, _<_};
 ghost use lib.ListN.{length, drop};
 ghost use lib.Seq.{sets};
 ghost use Rattle.units.specs.Bytes.{part};
-ghost use Rattle.message.specs.Lines.{behind, firstLine, lineAt};
+ghost use Rattle.message.specs.Lines.{leftBehind, behind, firstLine, lineAt};
 ghost use Rattle.message.specs.Words.{firstTexts, laterTexts, placedTexts, textIn, textAt};
+
+// How many lines are left to pass behind a byte.
+fn left_behind(left: u32, c: u8) -> u32
+    requires { ⌜ 0 < left ⌝ }
+    ensures { λ r. ⌜ r ≡ leftBehind left c ⌝ }
+{
+    if c == b'\n' {
+        return left - 1;
+    }
+    left
+}
 
 // Where the line number k starts.
 fn line_start(table: &[u8], k: u32) -> usize
@@ -17,9 +28,7 @@ fn line_start(table: &[u8], k: u32) -> usize
         if left == 0 {
             return at;
         }
-        if table[at] == b'\n' {
-            left -= 1;
-        }
+        left = left_behind(left, table[at]);
         at += 1;
     }
     at

@@ -1,3 +1,6 @@
+-- `message::slots::digit_count` meets its contract. Assumes nothing.
+use native.Mathlib.Omega.{arith}
+use Rattle.message.specs.Words.{digitCount}
 use borrow.Author.Needs.{needs}
 use Rattle.message.proofs.slots.digit_count.Statement.{statement}
 use Rattle.message.proofs.slots.digit_count.Tie as tie
@@ -57,7 +60,8 @@ add-result-2 : tie.Need-add-result-2
 add-result-2 c = search needs
 
 returns : tie.Need-returns
-returns c = search needs
+unfolding digitCount
+returns c = (omega arith, omega arith)
 
 pub digit-count-spec : {M : Type 1} → statement M
 digit-count-spec =
