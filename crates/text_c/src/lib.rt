@@ -1,5 +1,6 @@
 // The library's text calls for C and for whatever links as C does, in an archive of their own beside card_c: include/card.h has their prototypes.
 use guid_text::GuidOfText;
+use names::NameOfText;
 use units::Guid;
 use units::Stored;
 ghost use mathlib.Core.Path.{_≡_};
@@ -8,6 +9,7 @@ ghost use Rattle.units.specs.Meanings.{storedMeans};
 ghost use Rattle.text.specs.Texts.{textStored};
 ghost use Rattle.guid_text.specs.GuidTexts.{guidText, guidOfText};
 ghost use Rattle.message.specs.Words.{messageText};
+ghost use Rattle.names.specs.NameTexts.{nameText, nameOfText};
 ghost use Rattle.text_c.specs.Exports.{version, textToC, outcomeToC};
 
 // The version of the library.
@@ -74,4 +76,20 @@ pub extern "C" fn gpt_guid_from_text(text: &[u8]) -> GuidOfText
     ensures { λ r. ⌜ r ≡ guidOfText (now (text .entry)) ⌝ }
 {
     guid_text::guid_from_text(text)
+}
+
+// A name in UTF-8 and a zero behind it: 2.
+#[no_mangle]
+pub extern "C" fn gpt_name_to_utf8(out: &mut [u8], name: &[u16]) -> CardText
+    ensures { λ r. ⌜ Ends (outcomeToC (textStored (now (out .entry)) (nameText (now (name .entry))))) r (now (out .exit)) ⌝ }
+{
+    text_to_c(names::name_to_utf8(out, name))
+}
+
+// The name of a text in UTF-8: 39, 40.
+#[no_mangle]
+pub extern "C" fn gpt_name_from_utf8(text: &[u8]) -> NameOfText
+    ensures { λ r. ⌜ r ≡ nameOfText (now (text .entry)) ⌝ }
+{
+    names::name_from_utf8(text)
 }

@@ -1,0 +1,42 @@
+-- `names::inner::in_range` meets its contract. Assumes nothing.
+use borrow.Author.Needs.{needs}
+use Rattle.names.proofs.Ways.{range-low, range-surrogate, range-past, range-in}
+use Rattle.names.proofs.inner.in_range.Statement.{statement}
+use Rattle.names.proofs.inner.in_range.Tie as tie
+
+none-requires : tie.Need-none-requires
+none-requires c κs = search needs
+
+returns : tie.Need-returns
+returns c = search range-low
+
+is-between-requires : tie.Need-is-between-requires
+is-between-requires c κs = search needs
+
+none-requires-2 : tie.Need-none-requires-2
+none-requires-2 c κs = search needs
+
+returns-2 : tie.Need-returns-2
+returns-2 c = search range-surrogate
+
+none-requires-3 : tie.Need-none-requires-3
+none-requires-3 c κs = search needs
+
+returns-3 : tie.Need-returns-3
+returns-3 c = search range-past
+
+returns-4 : tie.Need-returns-4
+returns-4 c = search range-in
+
+pub in-range-spec : {M : Type 1} → statement M
+in-range-spec =
+    tie.close
+    (tie.spec
+    none-requires
+    returns
+    is-between-requires
+    none-requires-2
+    returns-2
+    none-requires-3
+    returns-3
+    returns-4)

@@ -1,0 +1,58 @@
+-- `names::inner::of_three` meets its contract. Assumes nothing.
+use borrow.Author.Needs.{needs}
+use Rattle.names.proofs.Ways.{three-second, three-third, three-whole}
+use Rattle.names.proofs.inner.of_three.Statement.{statement}
+use Rattle.names.proofs.inner.of_three.Tie as tie
+
+is-between-requires : tie.Need-is-between-requires
+is-between-requires c κs = search needs
+
+none-requires : tie.Need-none-requires
+none-requires c κs = search needs
+
+returns : tie.Need-returns
+returns c = search three-second
+
+is-between-requires-2 : tie.Need-is-between-requires-2
+is-between-requires-2 c κs = search needs
+
+none-requires-2 : tie.Need-none-requires-2
+none-requires-2 c κs = search needs
+
+returns-2 : tie.Need-returns-2
+returns-2 c = search three-third
+
+mul-in-range : tie.Need-mul-in-range
+mul-in-range c = search needs
+
+mul-in-range-2 : tie.Need-mul-in-range-2
+mul-in-range-2 c = search needs
+
+add-in-range : tie.Need-add-in-range
+add-in-range c = search needs
+
+add-in-range-2 : tie.Need-add-in-range-2
+add-in-range-2 c = search needs
+
+in-range-requires : tie.Need-in-range-requires
+in-range-requires c κs = search needs
+
+returns-3 : tie.Need-returns-3
+returns-3 c = search three-whole
+
+pub of-three-spec : {M : Type 1} → statement M
+of-three-spec =
+    tie.close
+    (tie.spec
+    is-between-requires
+    none-requires
+    returns
+    is-between-requires-2
+    none-requires-2
+    returns-2
+    mul-in-range
+    mul-in-range-2
+    add-in-range
+    add-in-range-2
+    in-range-requires
+    returns-3)
