@@ -60,10 +60,15 @@ programs:
 lib: target/lib/libcard.so.0
 	@echo "target/lib/libcard.a and target/lib/libcard.so; the header is include/card.h"
 
+# The text calls are a crate and an archive of their own, so that neither takes long to prove; both archives' objects go into one.
 target/lib/libcard.a: crates.txt $(shell find crates -name '*.rt' -o -name '*.antt')
 	@scripts/prove --staticlib card_c
+	@scripts/prove --staticlib text_c
 	@mkdir -p target/lib
-	cp target/staticlib/libcard_c.a target/lib/libcard.a
+	@rm -rf target/lib/objects && mkdir target/lib/objects && rm -f target/lib/libcard.a
+	@cd target/lib/objects && $(AR) x ../../staticlib/libcard_c.a && $(AR) x ../../staticlib/libtext_c.a
+	$(AR) rcs target/lib/libcard.a target/lib/objects/*.o
+	@rm -r target/lib/objects
 
 # Every symbol is bound when the library is loaded, and what was written for that is then read-only.
 target/lib/libcard.so: target/lib/libcard.a

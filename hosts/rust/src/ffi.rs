@@ -132,6 +132,10 @@ structs! {
     gpt_bootcode 440 { 0 bytes: [u8; 440] }
     gpt_signature_read 8 { 0 number: u32, 4 disk_signature: [u8; 4] }
     gpt_signature 4 { 0 bytes: [u8; 4] }
+    card_version_numbers 12 { 0 major: u32, 4 minor: u32, 8 patch: u32 }
+    card_text 16 { 0 number: u32, 8 length: usize }
+    gpt_guid_of_text 32 { 0 number: u32, 8 at: usize, 16 guid: gpt_guid }
+    gpt_name_of_text 88 { 0 number: u32, 8 at: usize, 16 name: [u16; 36] }
 }
 
 functions! {
@@ -241,6 +245,12 @@ functions! {
     fn gpt_mbr_write_bootcode(img: *mut u8, img_len: usize, bootcode: gpt_bootcode) -> gpt_stored;
     fn gpt_mbr_read_disk_signature(img: *const u8, img_len: usize) -> gpt_signature_read;
     fn gpt_mbr_write_disk_signature(img: *mut u8, img_len: usize, signature: gpt_signature) -> gpt_stored;
+    fn card_version() -> card_version_numbers;
+    fn card_message(out: *mut u8, out_len: usize, number: u32, place: u32, slot: u32) -> card_text;
+    fn gpt_guid_to_text(out: *mut u8, out_len: usize, guid: gpt_guid) -> card_text;
+    fn gpt_guid_from_text(text: *const u8, text_len: usize) -> gpt_guid_of_text;
+    fn gpt_name_to_utf8(out: *mut u8, out_len: usize, name: *const u16, name_len: usize) -> card_text;
+    fn gpt_name_from_utf8(text: *const u8, text_len: usize) -> gpt_name_of_text;
 }
 
 impl card_row {
@@ -277,8 +287,9 @@ mod tests {
             "uint32_t" => "u32",
             "uint64_t" => "u64",
             "size_t" => "usize",
-            "uint8_t *" => "*mut u8",
-            "const uint8_t *" => "*const u8",
+            "uint8_t *" | "char *" => "*mut u8",
+            "const uint8_t *" | "const char *" => "*const u8",
+            "const uint16_t *" => "*const u16",
             "const uint32_t *" => "*const u32",
             "uint64_t *" => "*mut u64",
             of_the_header => of_the_header,
@@ -292,7 +303,7 @@ mod tests {
     /// A function's line of C in Rust's words.
     fn function_in_rust(line: &str) -> String {
         let (answer, parameters) = line.strip_suffix(");").and_then(|line| line.split_once('(')).expect(line);
-        let parameters: String = parameters.split(", ").map(|parameter| in_rust(parameter) + ", ").collect();
+        let parameters: String = parameters.split(", ").filter(|&parameter| parameter != "void").map(|parameter| in_rust(parameter) + ", ").collect();
         match in_rust(answer).split_once(": ").unwrap() {
             (name, "void") => format!("{name}({parameters})"),
             (name, answer) => format!("{name}({parameters}) -> {answer}"),
@@ -317,7 +328,7 @@ mod tests {
             } else if let Some(place) = inside("CARD_AT(", ");") {
                 let (field, place) = place.rsplit_once(", ").unwrap();
                 lines.push(format!("{} is at {place}", field.replace(", ", ".")));
-            } else if line.starts_with(|c: char| c.is_ascii_alphabetic()) && !line.starts_with("enum ") && !line.starts_with("extern ") {
+            } else if line.starts_with(|c: char| c.is_ascii_alphabetic()) && !["enum ", "extern ", "static "].iter().any(|word| line.starts_with(word)) {
                 lines.push(function_in_rust(line));
             }
         }
