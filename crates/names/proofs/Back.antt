@@ -1,13 +1,12 @@
 -- A character that was written reads back: from its bytes in a text, and from its units. Assumes nothing.
-use mathlib.Core.Path.{_≡_, refl, sym, ap, _∙_}
-use mathlib.Core.Bool.{Bool, true, false, _&&_}
+use mathlib.Core.Path.{_≡_, refl, sym, _∙_}
+use mathlib.Core.Bool.{true, false}
 use mathlib.Core.List.{List, [], _∷_, _++_}
-use Prim.Native.Nat.{ℕ, suc, _+_, _*_, _-_, _/_, _%_, _≤_, _<_}
+use Prim.Native.Nat.{ℕ, _+_, _*_, _-_, _/_, _%_, _≤_, _<_}
 use native.Mathlib.Nat.{lt-of-not-le}
 use native.Mathlib.Decide.{decLe}
 use native.Mathlib.Omega.{arith}
 use borrow.Author.Tests.{lt-ltb, le-ltb, le-leb, lt-leb}
-use lib.Dec.{leb}
 use lib.ListN.{length, getD, length-append}
 use lib.Seq.{getD-append-seam, getD-append-add}
 use Rattle.names.specs.declared.inner.Scalar.{Scalar}
@@ -16,20 +15,20 @@ use Rattle.names.proofs.Ways.{range-in, two-whole, three-whole, four-wh
 use Rattle.names.proofs.Sizes.{one-byte, two-bytes, three-bytes, four-bytes, two-units, between-true}
 
 -- one order or the other
-split {ℓ} : {X : Type ℓ} (a b : ℕ) → (a < b → X) → (b ≤ a → X) → X
+pub split {ℓ} : {X : Type ℓ} (a b : ℕ) → (a < b → X) → (b ≤ a → X) → X
 split a b f g = elim (decLe b a) [ yes h ↦ g h | no h ↦ f (lt-of-not-le h) ]
 
 -- ---- tests
 
-in-between : (a x b : ℕ) → a ≤ x → x ≤ b → true ≡ between a x b
+pub in-between : (a x b : ℕ) → a ≤ x → x ≤ b → true ≡ between a x b
 unfolding between
 in-between a x b h k = rw (le-leb a x h, le-leb x b k)
 
-below : (a x b : ℕ) → x < a → false ≡ between a x b
+pub below : (a x b : ℕ) → x < a → false ≡ between a x b
 unfolding between
 below a x b h = rw (lt-leb a x h)
 
-above : (a x b : ℕ) → a ≤ x → b < x → false ≡ between a x b
+pub above : (a x b : ℕ) → a ≤ x → b < x → false ≡ between a x b
 unfolding between
 above a x b h k = rw (le-leb a x h, lt-leb x b k)
 

@@ -3,4 +3,5 @@ pub mod Ways
 pub mod Sizes
 pub mod Runs
 pub mod Back
+pub mod Decoded
 pub mod RoundTrip

@@ -1,6 +1,6 @@
 -- The loops of both calls: what each has stored so far, and each way on and out. Assumes nothing.
 use mathlib.Core.Path.{_≡_, refl, sym, ap, _∙_}
-use mathlib.Core.List.{List, [], _∷_, _++_, append-nil, append-assoc}
+use mathlib.Core.List.{List, [], _++_, append-nil, append-assoc}
 use Prim.Native.Nat.{ℕ, zero, suc, _+_, _-_, _≤_, _<_}
 use native.Mathlib.Omega.{arith}
 use borrow.Author.Tests.{lt-ltb, le-ltb, le-leb, lt-leb, eq-eqb, ne-eqb}
@@ -9,8 +9,8 @@ use lib.Seq.{sets, length-sets}
 use Rattle.units.proofs.Lists.{sets-then, part-same}
 use Rattle.names.specs.declared.NameOfText.{NameOfText}
 use Rattle.names.specs.declared.inner.Scalar.{Scalar}
-use Rattle.names.specs.Utf8.{scalarAt, unitsOf, utf8Of, pointOf}
-use Rattle.names.specs.NameTexts.{named, refusedName, nameFrom, nameOfText, unitAt, textFrom, nameText}
+use Rattle.names.specs.Utf8.{scalarAt, unitsOf, utf8Of}
+use Rattle.names.specs.NameTexts.{named, refusedName, nameFrom, nameOfText, unitAt, pointAt, textFrom, nameText}
 
 -- ---- the name of a text
 
@@ -108,10 +108,10 @@ unfolding textFrom
 text-end name i h zero = refl
 text-end name i h (suc f) = rw (eq-eqb (unitAt name i) 0 h)
 
-pub text-on : (name : List ℕ) (i : ℕ) {p : Scalar} {u w : ℕ} → u ≡ unitAt name i → w ≡ unitAt name (i + 1) → p ≡ pointOf u w → (u ≡ 0 → ⊥) → (f : ℕ)
+pub text-on : (name : List ℕ) (i : ℕ) {p : Scalar} {u : ℕ} → u ≡ unitAt name i → p ≡ pointAt name i → (u ≡ 0 → ⊥) → (f : ℕ)
     → textFrom (suc f) name i ≡ utf8Of (p .code) ++ textFrom f name (i + p .size)
 unfolding textFrom
-text-on name i {p} {u} {w} e g q h f = rw (← e, ← g, ← q, ne-eqb u 0 h)
+text-on name i {p} {u} e q h f = rw (← e, ← q, ne-eqb u 0 h)
 
 module _ {name words : List ℕ} {i n : ℕ} (t : Told name words i n) where
   pub told-room : length words ≡ 108
@@ -124,9 +124,9 @@ module _ {name words : List ℕ} {i n : ℕ} (t : Told name words i n) where
       rw (t .stored, ← t .count)
       (part-same z 0 (t .done) m ∙ sym (append-nil (t .done)) ∙ rw (text-end name i h (t .fuel)) at (t .rest))
 
-  pub told-on : {p : Scalar} {u w m : ℕ} {after : List ℕ} → i < 36 → u ≡ unitAt name i → (u ≡ 0 → ⊥) → w ≡ unitAt name (i + 1) → p ≡ pointOf u w → 1 ≤ p .size
+  pub told-on : {p : Scalar} {u m : ℕ} {after : List ℕ} → i < 36 → u ≡ unitAt name i → (u ≡ 0 → ⊥) → p ≡ pointAt name i → 1 ≤ p .size
       → after ≡ sets words n (utf8Of (p .code)) → m ≡ length (utf8Of (p .code)) → Told name after (i + p .size) (n + m)
-  told-on {p} {u} {w} {m} {after} b e h g q s a c = go (t .fuel) (t .enough) (t .rest)
+  told-on {p} {u} {m} {after} b e h q s a c = go (t .fuel) (t .enough) (t .rest)
     where
       go : (f : ℕ) → 36 ≤ i + f → t .done ++ textFrom f name i ≡ nameText name → Told name after (i + p .size) (n + m)
       go zero k r = absurd (omega arith)
@@ -137,5 +137,5 @@ module _ {name words : List ℕ} {i n : ℕ} (t : Told name words i n) where
             enough = omega arith;
             count = omega (arith, length-append (t .done) (utf8Of (p .code)), t .count);
             stored = a ∙ rw (t .stored) (sets-then (replicate 108 0) 0 (t .done) n (utf8Of (p .code)) (omega (arith, t .count)));
-            rest = append-assoc (t .done) (utf8Of (p .code)) (textFrom f name (i + p .size)) ∙ rw (text-on name i e g q h f) at r;
+            rest = append-assoc (t .done) (utf8Of (p .code)) (textFrom f name (i + p .size)) ∙ rw (text-on name i e q h f) at r;
           }

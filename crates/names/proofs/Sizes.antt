@@ -1,82 +1,17 @@
--- How much room a character takes: its bytes in a text, its units in a name, and its bytes as they are stored. Assumes nothing.
-use mathlib.Core.Path.{_≡_, refl, sym, ap, _∙_}
+-- How much room a character takes: its units in a name, its bytes as they are stored, and all bytes of the text of a name. Assumes nothing.
+use mathlib.Core.Path.{_≡_, refl}
 use mathlib.Core.Bool.{true}
-use mathlib.Core.List.{List, [], _∷_}
-use Prim.Native.Nat.{ℕ, suc, _+_, _*_, _-_, _/_, _%_, _≤_, _<_}
+use mathlib.Core.List.{List, [], _∷_, _++_}
+use Prim.Native.Nat.{ℕ, zero, suc, _+_, _*_, _-_, _/_, _%_, _≤_, _<_}
 use native.Mathlib.Omega.{arith}
-use borrow.Author.Tests.{lt-ltb, le-ltb, ltb-true, ltb-false, leb-true, leb-false, eqb-true, eqb-false}
+use borrow.Author.Tests.{lt-ltb, le-ltb, ltb-false, leb-true, leb-false, eqb-false}
 use lib.Dec.{leb, ltb, eqb}
-use lib.ListN.{length, getD, set}
+use lib.ListN.{length, getD, set, length-append}
 use lib.Seq.{sets}
-use Rattle.units.specs.Answer.{pick}
 use Rattle.units.proofs.Laws.{by-pick, and-both}
 use Rattle.names.specs.declared.inner.Scalar.{Scalar}
-use Rattle.names.specs.Utf8.{noScalar, between, surrogate, continues, sizeOf, inRange, ofTwo, ofThree, ofFour, ofSize, scalarAt, unitsOf, utf8Of, pointOf}
-use Rattle.names.specs.NameTexts.{unitAt}
-
--- ---- a character that was read is no longer than its first byte says, and is a scalar value
-
-pub record Sound (n : ℕ) (r : Scalar) : Type 0 where
-  pub size : r .size ≤ n
-  pub code : r .code < 0x110000
-
-sound-none : (n : ℕ) → Sound n noScalar
-sound-none n = record { size = omega arith; code = omega arith }
-
-sound-range : (n least v : ℕ) → Sound n (inRange n least v)
-unfolding inRange
-sound-range n least v =
-    by-pick (Sound n) (ltb v least) _ _
-    (λ _. sound-none n)
-    (λ _. by-pick (Sound n) (surrogate v) _ _
-    (λ _. sound-none n)
-    (λ _. by-pick (Sound n) (ltb 0x10FFFF v) _ _
-    (λ _. sound-none n)
-    (λ p. record { size = omega arith; code = omega (arith, ltb-false 0x10FFFF v p) })))
-
-sound-two : (c d : ℕ) → Sound 2 (ofTwo c d)
-unfolding ofTwo
-sound-two c d = by-pick (Sound 2) (continues d) _ _ (λ _. sound-range 2 _ _) (λ _. sound-none 2)
-
-sound-three : (c d e : ℕ) → Sound 3 (ofThree c d e)
-unfolding ofThree
-sound-three c d e =
-    by-pick (Sound 3) (continues d) _ _
-    (λ _. by-pick (Sound 3) (continues e) _ _ (λ _. sound-range 3 _ _) (λ _. sound-none 3))
-    (λ _. sound-none 3)
-
-sound-four : (c d e f : ℕ) → Sound 4 (ofFour c d e f)
-unfolding ofFour
-sound-four c d e f =
-    by-pick (Sound 4) (continues d) _ _
-    (λ _. by-pick (Sound 4) (continues e) _ _
-    (λ _. by-pick (Sound 4) (continues f) _ _ (λ _. sound-range 4 _ _) (λ _. sound-none 4))
-    (λ _. sound-none 4))
-    (λ _. sound-none 4)
-
-longer : {m n : ℕ} {r : Scalar} → m ≤ n → Sound m r → Sound n r
-longer h s = record { size = omega arith; code = s .code }
-
-sound-size : (n : ℕ) (text : List ℕ) (at : ℕ) → getD text at 0 < 256 → (n ≡ 0 → ⊥) → Sound n (ofSize n text at)
-sound-size n text at b some =
-    by-pick (Sound n) (eqb n 1) _ _
-    (λ p. record { size = omega (arith, eqb-true n 1 p); code = omega arith })
-    (λ p. by-pick (Sound n) (eqb n 2) _ _
-    (λ q. longer (omega (arith, eqb-true n 2 q)) (sound-two _ _))
-    (λ q. by-pick (Sound n) (eqb n 3) _ _
-    (λ r. longer (omega (arith, eqb-true n 3 r)) (sound-three _ _ _))
-    (λ r. longer (omega (arith, eqb-false n 1 p, eqb-false n 2 q, eqb-false n 3 r)) (sound-four _ _ _ _))))
-
--- its bytes stand in the text
-pub sound-at : (text : List ℕ) (at : ℕ) → getD text at 0 < 256 → at < length text → Sound (length text - at) (scalarAt text at)
-unfolding scalarAt
-sound-at text at b h =
-    let n : ℕ = sizeOf (getD text at 0) in
-    by-pick (Sound (length text - at)) (eqb n 0) _ _
-    (λ _. sound-none _)
-    (λ p. by-pick (Sound (length text - at)) (ltb (length text) (at + n)) _ _
-    (λ _. sound-none _)
-    (λ q. longer (omega (arith, ltb-false (length text) (at + n) q)) (sound-size n text at b (eqb-false n 0 p))))
+use Rattle.names.specs.Utf8.{between, surrogate, unitsOf, utf8Of, pointOf}
+use Rattle.names.specs.NameTexts.{unitAt, pointAt, textFrom, nameText}
 
 -- ---- the units of a character
 
@@ -199,15 +134,15 @@ some-of v =
 pub at-least-1 : (v : ℕ) → 1 ≤ length (utf8Of v)
 at-least-1 v = some-of v .some
 
-pub record Fit (r : Scalar) : Type 0 where
-  pub some : 1 ≤ r .size
-  pub code : r .code < 0x110000
-  pub bytes : length (utf8Of (r .code)) ≤ 3 * r .size
+record Fit (r : Scalar) : Type 0 where
+  some : 1 ≤ r .size
+  code : r .code < 0x110000
+  bytes : length (utf8Of (r .code)) ≤ 3 * r .size
 
 fit-one : (v : ℕ) → v < 65536 → Fit (record { size = 1; code = v })
 fit-one v h = record { some = omega arith; code = omega arith; bytes = at-most-3 v h .most }
 
-pub fit-point : (u w : ℕ) → u < 65536 → Fit (pointOf u w)
+fit-point : (u w : ℕ) → u < 65536 → Fit (pointOf u w)
 unfolding pointOf
 fit-point u w h =
     by-pick Fit (surrogate u) _ _
@@ -225,13 +160,13 @@ unit-inside name i =
     by-pick (λ u. 0 < u → i < 36) (leb 36 i) _ _ (λ _. λ h. absurd (omega arith)) (λ p. λ _. leb-false 36 i p)
 
 -- so many units from a place on are inside the 36
-pub record Inside (i : ℕ) (r : Scalar) : Type 0 where
-  pub inside : i + r .size ≤ 36
+record Inside (i : ℕ) (r : Scalar) : Type 0 where
+  inside : i + r .size ≤ 36
 
 inside-one : (i v : ℕ) → i < 36 → Inside i (record { size = 1; code = v })
 inside-one i v h = record { inside = omega arith }
 
-pub point-inside : (name : List ℕ) (i u : ℕ) → i < 36 → Inside i (pointOf u (unitAt name (i + 1)))
+point-inside : (name : List ℕ) (i u : ℕ) → i < 36 → Inside i (pointOf u (unitAt name (i + 1)))
 unfolding pointOf
 point-inside name i u h =
     let w : ℕ = unitAt name (i + 1) in
@@ -242,3 +177,33 @@ point-inside name i u h =
     (λ _. inside-one i 0xFFFD h))
     (λ _. inside-one i 0xFFFD h))
     (λ _. inside-one i u h)
+
+pub point-here : (name : List ℕ) (i : ℕ) → i < 36 → {r : Scalar} {u w : ℕ} → u ≡ unitAt name i → u < 65536 → w ≡ unitAt name (i + 1) → r ≡ pointOf u w
+    → ((r ≡ pointAt name i) × (1 ≤ r .size) × (i + r .size ≤ 36)) × ((r .code < 0x110000) × (length (utf8Of (r .code)) ≤ 3 * r .size))
+unfolding pointAt
+point-here name i h {r} {u} {w} e b f q =
+    let p = rw (← q) at (fit-point u w b) in
+    let s = rw (← f, ← q) at (point-inside name i u h) in
+    ((rw (← e, ← f) q, p .some, s .inside), (p .code, p .bytes))
+
+-- ---- the text of a name of 16-bit units has at most 108 bytes
+
+unit-small : (name : List ℕ) → ((i : ℕ) → getD name i 0 < 65536) → (i : ℕ) → unitAt name i < 65536
+unfolding unitAt
+unit-small name b i = by-pick (λ (u : ℕ). u < 65536) (leb 36 i) 0 (getD name i 0) (λ _. omega arith) (λ _. b i)
+
+text-most : (name : List ℕ) → ((i : ℕ) → getD name i 0 < 65536) → (k i : ℕ) → i ≤ 36 → Most (3 * (36 - i)) (textFrom k name i)
+unfolding textFrom pointAt
+text-most name b zero i h = record { most = omega arith }
+text-most name b (suc k) i h =
+    by-pick (Most (3 * (36 - i))) (eqb (unitAt name i) 0) _ _
+    (λ _. record { most = omega arith })
+    (λ p.
+    let z = eqb-false (unitAt name i) 0 p in
+    let r : Scalar = pointAt name i in
+    let q = point-here name i (unit-inside name i (omega arith)) {r = r} refl (unit-small name b i) refl refl in
+    record { most = omega (arith, length-append (utf8Of (r .code)) (textFrom k name (i + r .size)), q .1 .1, q .0 .2, text-most name b k (i + r .size) (q .0 .2) .most) })
+
+pub text-room : (name : List ℕ) → ((i : ℕ) → getD name i 0 < 65536) → length (nameText name) ≤ 108
+unfolding nameText
+text-room name b = text-most name b 36 0 (omega arith) .most

@@ -1,7 +1,7 @@
 -- One law for each way out of reading a character, in the form in which the code leaves it. Assumes nothing.
-use mathlib.Core.Path.{_≡_, sym, ap, _∙_}
-use mathlib.Core.Bool.{Bool, true, false, not, _&&_}
-use mathlib.Core.List.{List, [], _∷_}
+use mathlib.Core.Path.{_≡_, sym, _∙_}
+use mathlib.Core.Bool.{Bool, true, false, not}
+use mathlib.Core.List.{List}
 use Prim.Native.Nat.{ℕ, _+_, _*_, _-_, _%_, _≤_, _<_}
 use native.Mathlib.Omega.{arith}
 use borrow.Author.Tests.{lt-ltb, le-ltb, le-leb, lt-leb, eq-eqb, ne-eqb, not-true, not-false}
@@ -80,6 +80,10 @@ module _ {r : Scalar} {t : Bool} (c d e f : ℕ) (p : t ≡ continues d) where
 
 -- ---- the character at a place, whose first byte says n bytes
 
+-- what is left of a text has room for n bytes
+pub room : {at n len : ℕ} → at < len → n ≤ len - at → at + n ≤ len
+room h k = omega arith
+
 module _ (text : List ℕ) (at n : ℕ) (e : n ≡ sizeOf (getD text at 0)) where
   pub at-none : {r : Scalar} → n ≡ 0 → r ≡ noScalar → r ≡ scalarAt text at
   unfolding scalarAt
@@ -90,24 +94,24 @@ module _ (text : List ℕ) (at n : ℕ) (e : n ≡ sizeOf (getD text at 0)) wher
     unfolding scalarAt
     at-cut h z = rw (← e, ne-eqb n 0 some, lt-ltb (length text) (at + n) h) z
 
-    module _ (room : at + n ≤ length text) where
+    module _ (whole : at + n ≤ length text) where
       pub at-one : n ≡ 1 → record { size = 1; code = getD text at 0 } ≡ scalarAt text at
       unfolding scalarAt
-      at-one h = rw (← e, ne-eqb n 0 some, le-ltb (length text) (at + n) room, eq-eqb n 1 h)
+      at-one h = rw (← e, ne-eqb n 0 some, le-ltb (length text) (at + n) whole, eq-eqb n 1 h)
 
       pub at-two : {r : Scalar} → (n ≡ 1 → ⊥) → n ≡ 2 → r ≡ ofTwo (getD text at 0) (getD text (at + 1) 0) → r ≡ scalarAt text at
       unfolding scalarAt
-      at-two f h z = rw (← e, ne-eqb n 0 some, le-ltb (length text) (at + n) room, ne-eqb n 1 f, eq-eqb n 2 h) z
+      at-two f h z = rw (← e, ne-eqb n 0 some, le-ltb (length text) (at + n) whole, ne-eqb n 1 f, eq-eqb n 2 h) z
 
       pub at-three : {r : Scalar} → (n ≡ 1 → ⊥) → (n ≡ 2 → ⊥) → n ≡ 3
           → r ≡ ofThree (getD text at 0) (getD text (at + 1) 0) (getD text (at + 2) 0) → r ≡ scalarAt text at
       unfolding scalarAt
-      at-three f g h z = rw (← e, ne-eqb n 0 some, le-ltb (length text) (at + n) room, ne-eqb n 1 f, ne-eqb n 2 g, eq-eqb n 3 h) z
+      at-three f g h z = rw (← e, ne-eqb n 0 some, le-ltb (length text) (at + n) whole, ne-eqb n 1 f, ne-eqb n 2 g, eq-eqb n 3 h) z
 
       pub at-four : {r : Scalar} → (n ≡ 1 → ⊥) → (n ≡ 2 → ⊥) → (n ≡ 3 → ⊥)
           → r ≡ ofFour (getD text at 0) (getD text (at + 1) 0) (getD text (at + 2) 0) (getD text (at + 3) 0) → r ≡ scalarAt text at
       unfolding scalarAt
-      at-four f g h z = rw (← e, ne-eqb n 0 some, le-ltb (length text) (at + n) room, ne-eqb n 1 f, ne-eqb n 2 g, ne-eqb n 3 h) z
+      at-four f g h z = rw (← e, ne-eqb n 0 some, le-ltb (length text) (at + n) whole, ne-eqb n 1 f, ne-eqb n 2 g, ne-eqb n 3 h) z
 
 -- ---- a unit of a name, and what it stands for
 

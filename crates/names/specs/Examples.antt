@@ -5,7 +5,7 @@ use Prim.Native.Nat.{ℕ}
 use lib.ListN.{replicate}
 use Rattle.names.specs.declared.NameOfText.{NameOfText}
 use Rattle.names.specs.Utf8.{between, sizeOf, inRange, ofTwo, ofThree, ofFour, scalarAt, unitsOf, utf8Of, pointOf}
-use Rattle.names.specs.NameTexts.{refusedName, nameFrom, nameOfText, unitAt, textFrom, nameText}
+use Rattle.names.specs.NameTexts.{refusedName, nameFrom, nameOfText, unitAt, pointAt, textFrom, nameText}
 
 -- a name of these units and of zeros up to 36, which are given too
 abbrev gives : List ℕ → ℕ → NameOfText
@@ -22,7 +22,7 @@ unfolding nameOfText nameFrom scalarAt sizeOf between inRange ofTwo ofThree ofFo
 not-identical-read = refl
 
 pub not-identical-told : nameText (0x0041 ∷ 0x2262 ∷ 0x0391 ∷ 0x002E ∷ 0 ∷ []) ≡ notIdentical
-unfolding nameText textFrom unitAt pointOf between utf8Of
+unfolding nameText textFrom unitAt pointAt pointOf between utf8Of
 not-identical-told = refl
 
 -- the Korean word for the language
@@ -34,7 +34,7 @@ unfolding nameOfText nameFrom scalarAt sizeOf between inRange ofTwo ofThree ofFo
 hangugeo-read = refl
 
 pub hangugeo-told : nameText (0xD55C ∷ 0xAD6D ∷ 0xC5B4 ∷ []) ≡ hangugeo
-unfolding nameText textFrom unitAt pointOf between utf8Of
+unfolding nameText textFrom unitAt pointAt pointOf between utf8Of
 hangugeo-told = refl
 
 -- the Japanese word for the language
@@ -54,7 +54,7 @@ unfolding nameOfText nameFrom scalarAt sizeOf between inRange ofTwo ofThree ofFo
 stump-read = refl
 
 pub stump-told : nameText (0xFEFF ∷ 0xD84C ∷ 0xDFB4 ∷ []) ≡ stump
-unfolding nameText textFrom unitAt pointOf between utf8Of
+unfolding nameText textFrom unitAt pointAt pointOf between utf8Of
 stump-told = refl
 
 -- ---- RFC 2781, section 5: U+12345 and "=Ra"
@@ -131,9 +131,9 @@ half-a-pair = refl
 -- ---- surrogates that have no partner: a low one, a high one, and a high one whose partner would be the 37th unit
 
 pub lone-told : nameText (0xDC00 ∷ 0x0041 ∷ 0xDBFF ∷ 0x0042 ∷ []) ≡ 0xEF ∷ 0xBF ∷ 0xBD ∷ 0x41 ∷ 0xEF ∷ 0xBF ∷ 0xBD ∷ 0x42 ∷ []
-unfolding nameText textFrom unitAt pointOf between utf8Of
+unfolding nameText textFrom unitAt pointAt pointOf between utf8Of
 lone-told = refl
 
 pub partner-outside : nameText (replicate 35 0x0041 ++ (0xD84C ∷ 0xDFB4 ∷ [])) ≡ replicate 35 0x41 ++ (0xEF ∷ 0xBF ∷ 0xBD ∷ [])
-unfolding nameText textFrom unitAt pointOf between utf8Of
+unfolding nameText textFrom unitAt pointAt pointOf between utf8Of
 partner-outside = refl

@@ -1,5 +1,5 @@
 -- The name that a text gives, and the text that a name gives. A name is 36 UTF-16 units, ended by the first zero (UEFI 2.10, 5.3.3). Assumes nothing.
-use mathlib.Core.List.{List, [], _∷_, _++_}
+use mathlib.Core.List.{List, [], _++_}
 use Prim.Native.Nat.{ℕ, zero, suc, _+_}
 use lib.Dec.{leb, ltb, eqb}
 use lib.ListN.{length, getD, replicate}
@@ -35,12 +35,16 @@ nameOfText text = nameFrom (length text) text 0 []
 unfoldable pub unitAt : List ℕ → ℕ → ℕ
 unitAt name i = pick (leb 36 i) 0 (getD name i 0)
 
+-- what the unit at a place stands for, and how many units that takes
+unfoldable pub pointAt : List ℕ → ℕ → Scalar
+pointAt name i = pointOf (unitAt name i) (unitAt name (i + 1))
+
 -- the text of a name from a unit on, up to the first zero; k is at least the number of units that are left
 unfoldable pub textFrom : ℕ → List ℕ → ℕ → List ℕ
 textFrom zero name i = []
 textFrom (suc k) name i =
     pick (eqb (unitAt name i) 0) []
-    (utf8Of (pointOf (unitAt name i) (unitAt name (i + 1)) .code) ++ textFrom k name (i + pointOf (unitAt name i) (unitAt name (i + 1)) .size))
+    (utf8Of (pointAt name i .code) ++ textFrom k name (i + pointAt name i .size))
 
 unfoldable pub nameText : List ℕ → List ℕ
 nameText name = textFrom 36 name 0

@@ -5,7 +5,7 @@ ghost use Prim.Native.Nat.{_+_, _*_, _≤_, _<_};
 ghost use lib.ListN.{length, take};
 ghost use lib.Seq.{sets};
 ghost use Rattle.names.specs.Utf8.{noScalar, replacement, between, sizeOf, inRange, ofTwo, ofThree, ofFour, scalarAt, unitsOf, utf8Of, pointOf};
-ghost use Rattle.names.specs.NameTexts.{refusedName, unitAt, nameText};
+ghost use Rattle.names.specs.NameTexts.{refusedName, unitAt, pointAt, nameText};
 
 // A scalar value, and how many bytes or units it takes; size 0: there is none.
 pub struct Scalar {
@@ -127,7 +127,7 @@ pub fn of_four(c: u8, d: u8, e: u8, f: u8) -> Scalar
 // The character whose bytes begin at place at.
 pub fn scalar_at(text: &[u8], at: usize) -> Scalar
     requires { ⌜ at < length (now text) ⌝ }
-    ensures { λ r. ⌜ r ≡ scalarAt (now (text .entry)) at ⌝ }
+    ensures { λ r. ⌜ (r ≡ scalarAt (now (text .entry)) at) × (at + r .size ≤ length (now (text .entry))) × (r .code < 0x110000) ⌝ }
 {
     let c = text[at];
     let n = size_of(c);
@@ -221,6 +221,15 @@ pub fn point_of(u: u16, w: u16) -> Scalar
     }
 }
 
+// What the unit at place i of a name stands for: its units are inside the 36, and it takes at most three bytes for each of them.
+pub fn point_at(name: &[u16], i: usize) -> Scalar
+    requires { ⌜ i < 36 ⌝ }
+    ensures { λ r. ⌜ (r ≡ pointAt (now (name .entry)) i) × (1 ≤ r .size) × (i + r .size ≤ 36) ⌝ }
+    ensures { λ r. ⌜ (r .code < 0x110000) × (length (utf8Of (r .code)) ≤ 3 * r .size) ⌝ }
+{
+    point_of(unit_at(name, i), unit_at(name, i + 1))
+}
+
 // How many bytes of UTF-8 a scalar value takes.
 pub fn byte_count(code: u32) -> usize
     ensures { λ r. ⌜ r ≡ length (utf8Of code) ⌝ }
@@ -275,7 +284,7 @@ pub fn compose(name: &[u16]) -> Words
         if u == 0 {
             return Words { count: n, words };
         }
-        let p = point_of(u, unit_at(name, i + 1));
+        let p = point_at(name, i);
         let size = p.size;
         let code = p.code;
         put_utf8(&mut words, n, code);

@@ -3,7 +3,6 @@ use Prim.Native.Nat.{_-_, _≤_}
 use native.Mathlib.Omega.{arith}
 use borrow.Author.Needs.{needs}
 use lib.ListN.{length}
-use Rattle.names.proofs.Sizes.{sound-at}
 use Rattle.names.proofs.Runs.{Gone, gone-start, gone-end, gone-none, gone-zero, gone-full, gone-on}
 use Rattle.names.proofs.name_from_utf8.Statement.{statement}
 use Rattle.names.proofs.name_from_utf8.Tie as tie
@@ -15,8 +14,7 @@ abbrev μ-loop : tie.MeasureT-loop
 μ-loop text name₀ at₀ k₀ name at k = length text - at
 
 loop-holds : tie.Need-loop-holds Inv-loop μ-loop
-loop-holds c =
-    (omega arith, omega arith, gone-start (c .before .args .text .now))
+loop-holds c = (omega arith, omega arith, gone-start (c .before .args .text .now))
 
 scalar-at-requires : tie.Need-scalar-at-requires Inv-loop μ-loop
 scalar-at-requires c κs = search needs
@@ -26,16 +24,17 @@ refused-requires c κs = search needs
 
 returns : tie.Need-returns Inv-loop μ-loop
 returns c =
-    let l = c .before .before .before .before .loop in
-    gone-none (l .inv .2) (c .before .before .scalar-at .ensures) (omega arith) (c .refused .ensures) (c .before .if1 .taken)
+    let d = c .before .before in
+    gone-none (d .before .before .loop .inv .2) (d .scalar-at .ensures .0) (omega arith) (c .refused .ensures) (c .before .if1 .taken)
 
 refused-requires-2 : tie.Need-refused-requires-2 Inv-loop μ-loop
 refused-requires-2 c κs = search needs
 
 returns-2 : tie.Need-returns-2 Inv-loop μ-loop
 returns-2 c =
-    let l = c .before .before .before .before .before .loop in
-    gone-zero (l .inv .2) (c .before .before .before .scalar-at .ensures) (omega arith) (c .before .before .if1 .left) (c .refused2 .ensures) (c .before .if2 .taken)
+    let d = c .before .before in
+    let s = d .before in
+    gone-zero (s .before .before .loop .inv .2) (s .scalar-at .ensures .0) (omega arith) (d .if1 .left) (c .refused2 .ensures) (c .before .if2 .taken)
 
 unit-count-requires : tie.Need-unit-count-requires Inv-loop μ-loop
 unit-count-requires c κs = search needs
@@ -48,45 +47,33 @@ refused-requires-3 c κs = search needs
 
 returns-3 : tie.Need-returns-3 Inv-loop μ-loop
 returns-3 c =
-    let l = c .before .before .before .before .before .before .before .loop in
-    gone-full (l .inv .2) (c .before .before .before .before .before .scalar-at .ensures) (omega arith) (c .before .before .before .before .if1 .left) (c .before .before .before .if2 .left) (c .before .before .unit-count .ensures .0) (c .refused3 .ensures) (c .before .if3 .taken)
+    let n = c .before .before in
+    let d = n .before in
+    let s = d .before .before in
+    gone-full (s .before .before .loop .inv .2) (s .scalar-at .ensures .0) (omega arith) (d .before .if1 .left) (d .if2 .left) (n .unit-count .ensures .0)
+    (c .refused3 .ensures) (c .before .if3 .taken)
 
 put-units-requires : tie.Need-put-units-requires Inv-loop μ-loop
-put-units-requires c κs =
-    let a = c .before .before .before .before .before .before .before .before .before .args in
-    let l = c .before .before .before .before .before .before .before .loop in
-    let s = sound-at (a .text .now) (l .at) (omega (arith, c .before .before .before .before .before .before .before .before .shared-slice-known .given (l .at))) (omega arith) in
-    let t = rw (← c .before .before .before .before .before .scalar-at .ensures) at s in
-    (t .code, omega arith)
+put-units-requires c κs = (omega arith, omega arith)
 
 add-k : tie.Need-add-k Inv-loop μ-loop
-add-k c = search needs
+add-k c = omega arith
 
 add-at : tie.Need-add-at Inv-loop μ-loop
-add-at c =
-    let a = c .before .before .before .before .before .before .before .before .before .before .args in
-    let l = c .before .before .before .before .before .before .before .before .loop in
-    let s = sound-at (a .text .now) (l .at) (omega (arith, c .before .before .before .before .before .before .before .before .before .shared-slice-known .given (l .at))) (omega arith) in
-    let t = rw (← c .before .before .before .before .before .before .scalar-at .ensures) at s in
-    omega (arith, t .size)
+add-at c = omega arith
 
 loop-less : tie.Need-loop-less Inv-loop μ-loop
-loop-less c =
-    let a = c .before .before .before .before .before .before .before .before .before .before .args in
-    let l = c .before .before .before .before .before .before .before .before .loop in
-    let s = sound-at (a .text .now) (l .at) (omega (arith, c .before .before .before .before .before .before .before .before .before .shared-slice-known .given (l .at))) (omega arith) in
-    let t = rw (← c .before .before .before .before .before .before .scalar-at .ensures) at s in
-    omega (arith, t .size)
+loop-less c = omega arith
 
 loop-again : tie.Need-loop-again Inv-loop μ-loop
 loop-again c =
-    let a = c .before .before .before .before .before .before .before .before .before .before .args in
-    let l = c .before .before .before .before .before .before .before .before .loop in
-    let s = sound-at (a .text .now) (l .at) (omega (arith, c .before .before .before .before .before .before .before .before .before .shared-slice-known .given (l .at))) (omega arith) in
-    let t = rw (← c .before .before .before .before .before .before .scalar-at .ensures) at s in (
-      omega (arith, t .size),
+    let n = c .before .before .before in
+    let d = n .before in
+    let s = d .before .before in (
       omega arith,
-      gone-on (l .inv .2) (c .before .before .before .before .before .before .scalar-at .ensures) (omega arith) (c .before .before .before .before .before .if1 .left) (c .before .before .before .before .if2 .left) (c .before .before .before .unit-count .ensures .0) (c .put-units .ensures) (omega arith),
+      omega arith,
+      gone-on (s .before .before .loop .inv .2) (s .scalar-at .ensures .0) (omega arith) (d .before .if1 .left) (d .if2 .left) (n .unit-count .ensures .0)
+          (c .put-units .ensures) (omega arith),
     )
 
 returns-4 : tie.Need-returns-4 Inv-loop μ-loop

@@ -1,10 +1,9 @@
 -- `names::inner::compose` meets its contract. The invariant: what is stored so far, three bytes a unit at most, and with what is to come it is the whole text. Assumes nothing.
-use mathlib.Core.Path.{_≡_, sym, _∙_}
+use mathlib.Core.Path.{sym, _∙_}
 use Prim.Native.Nat.{_*_, _-_, _≤_}
 use native.Mathlib.Omega.{arith}
 use borrow.Author.Needs.{needs}
 use Rattle.names.proofs.Ways.{unit-past}
-use Rattle.names.proofs.Sizes.{fit-point, point-inside}
 use Rattle.names.proofs.Runs.{Told, told-start, told-room, told-end, told-on}
 use Rattle.names.proofs.inner.compose.Statement.{statement}
 use Rattle.names.proofs.inner.compose.Tie as tie
@@ -26,65 +25,40 @@ returns c =
     let l = c .before .before .before .loop in
     (omega (arith, told-room (l .inv .2)), told-end (l .inv .2) (omega arith) (sym (c .before .unit-at .ensures) ∙ c .if1 .taken))
 
-add-unit-at : tie.Need-add-unit-at Inv-loop μ-loop
-add-unit-at c = search needs
-
-unit-at-requires-2 : tie.Need-unit-at-requires-2 Inv-loop μ-loop
-unit-at-requires-2 c κs = search needs
-
-point-of-requires : tie.Need-point-of-requires Inv-loop μ-loop
-point-of-requires c κs = search needs
+point-at-requires : tie.Need-point-at-requires Inv-loop μ-loop
+point-at-requires c κs = search needs
 
 put-utf8-requires : tie.Need-put-utf8-requires Inv-loop μ-loop
-put-utf8-requires c κs =
-    let l = c .before .before .before .before .before .before .loop in
-    let a = c .before .before .before .before .before .before .before .before .args in
-    let p = rw (← c .before .point-of .ensures) at (fit-point (c .before .before .before .before .unit-at .result) (c .before .before .unit-at2 .result) (omega arith)) in
-    let q = rw (← c .before .before .unit-at2 .ensures, ← c .before .point-of .ensures) at (point-inside (a .name .now) (l .i) (c .before .before .before .before .unit-at .result) (omega arith)) in
-    (p .code, omega (arith, p .bytes, q .inside))
+put-utf8-requires c κs = (omega arith, omega arith)
 
 byte-count-requires : tie.Need-byte-count-requires Inv-loop μ-loop
 byte-count-requires c κs = search needs
 
 add-n : tie.Need-add-n Inv-loop μ-loop
-add-n c =
-    let l = c .before .before .before .before .before .before .before .before .loop in
-    let a = c .before .before .before .before .before .before .before .before .before .before .args in
-    let p = rw (← c .before .before .before .point-of .ensures) at (fit-point (c .before .before .before .before .before .before .unit-at .result) (c .before .before .before .before .unit-at2 .result) (omega arith)) in
-    let q = rw (← c .before .before .before .before .unit-at2 .ensures, ← c .before .before .before .point-of .ensures) at (point-inside (a .name .now) (l .i) (c .before .before .before .before .before .before .unit-at .result) (omega arith)) in
-    omega (arith, p .bytes, q .inside)
+add-n c = omega arith
 
 add-i : tie.Need-add-i Inv-loop μ-loop
-add-i c =
-    let l = c .before .before .before .before .before .before .before .before .loop in
-    let a = c .before .before .before .before .before .before .before .before .before .before .args in
-    let p = rw (← c .before .before .before .point-of .ensures) at (fit-point (c .before .before .before .before .before .before .unit-at .result) (c .before .before .before .before .unit-at2 .result) (omega arith)) in
-    let q = rw (← c .before .before .before .before .unit-at2 .ensures, ← c .before .before .before .point-of .ensures) at (point-inside (a .name .now) (l .i) (c .before .before .before .before .before .before .unit-at .result) (omega arith)) in
-    omega (arith, q .inside)
+add-i c = omega arith
 
 loop-less : tie.Need-loop-less Inv-loop μ-loop
-loop-less c =
-    let l = c .before .before .before .before .before .before .before .before .loop in
-    let a = c .before .before .before .before .before .before .before .before .before .before .args in
-    let p = rw (← c .before .before .before .point-of .ensures) at (fit-point (c .before .before .before .before .before .before .unit-at .result) (c .before .before .before .before .unit-at2 .result) (omega arith)) in
-    let q = rw (← c .before .before .before .before .unit-at2 .ensures, ← c .before .before .before .point-of .ensures) at (point-inside (a .name .now) (l .i) (c .before .before .before .before .before .before .unit-at .result) (omega arith)) in
-    omega (arith, p .some, q .inside)
+loop-less c = omega arith
 
 loop-again : tie.Need-loop-again Inv-loop μ-loop
 loop-again c =
-    let l = c .before .before .before .before .before .before .before .before .loop in
-    let a = c .before .before .before .before .before .before .before .before .before .before .args in
-    let p = rw (← c .before .before .before .point-of .ensures) at (fit-point (c .before .before .before .before .before .before .unit-at .result) (c .before .before .before .before .unit-at2 .result) (omega arith)) in
-    let q = rw (← c .before .before .before .before .unit-at2 .ensures, ← c .before .before .before .point-of .ensures) at (point-inside (a .name .now) (l .i) (c .before .before .before .before .before .before .unit-at .result) (omega arith)) in (
-      q .inside,
-      omega (arith, p .bytes),
-      told-on (l .inv .2) (omega arith) (c .before .before .before .before .before .before .unit-at .ensures) (c .before .before .before .before .before .if1 .left) (c .before .before .before .before .unit-at2 .ensures) (c .before .before .before .point-of .ensures) (p .some) (c .before .put-utf8 .ensures) (c .byte-count .ensures),
+    let p = c .before .before .before in
+    let u = p .before .before in (
+      omega arith,
+      omega arith,
+      told-on (u .before .before .loop .inv .2) (omega arith) (u .unit-at .ensures) (p .before .if1 .left) (p .point-at .ensures .0 .0) (omega arith)
+          (c .before .put-utf8 .ensures) (c .byte-count .ensures),
     )
 
 returns-2 : tie.Need-returns-2 Inv-loop μ-loop
 returns-2 c =
-    let l = c .before .loop in
-    (omega (arith, told-room (l .inv .2)), told-end (l .inv .2) (omega arith) (sym (unit-past (c .before .before .before .args .name .now) (l .i) (omega arith))))
+    let l = c .before .loop in (
+      omega (arith, told-room (l .inv .2)),
+      told-end (l .inv .2) (omega arith) (sym (unit-past (c .before .before .before .args .name .now) (l .i) (omega arith))),
+    )
 
 pub compose-spec : {M : Type 1} → statement M
 compose-spec =
@@ -95,9 +69,7 @@ compose-spec =
     loop-holds
     unit-at-requires
     returns
-    add-unit-at
-    unit-at-requires-2
-    point-of-requires
+    point-at-requires
     put-utf8-requires
     byte-count-requires
     add-n

@@ -39,7 +39,9 @@ add-t11 c = search needs
 
 returns-4 : tie.Need-returns-4
 returns-4 c =
-    point-pair _ _ (c .before .before .before .before .before .is-between .ensures) (c .before .before .before .before .if1 .left) (c .before .before .before .is-between2 .ensures) (c .before .before .if2 .left) (c .before .is-between3 .ensures) (c .if3 .left)
+    let h = c .before .before in
+    let s = h .before .before in
+    point-pair _ _ (s .before .is-between .ensures) (s .if1 .left) (h .before .is-between2 .ensures) (h .if2 .left) (c .before .is-between3 .ensures) (c .if3 .left)
 
 pub point-of-spec : {M : Type 1} → statement M
 point-of-spec =

@@ -1,7 +1,8 @@
 -- `names::inner::scalar_at` meets its contract. Assumes nothing.
 use borrow.Author.Needs.{needs}
-use Rattle.names.proofs.Ways.{at-none, at-cut, at-one, at-two, at-three, at-four}
+use Rattle.names.proofs.Ways.{room, at-none, at-cut, at-one, at-two, at-three, at-four}
 use native.Mathlib.Omega.{arith}
+use Rattle.names.proofs.Decoded.{found}
 use Rattle.names.proofs.inner.scalar_at.Statement.{statement}
 use Rattle.names.proofs.inner.scalar_at.Tie as tie
 
@@ -16,8 +17,11 @@ none-requires c κs = search needs
 
 returns : tie.Need-returns
 returns c =
-    let a = c .before .before .before .before .before .args in
-    at-none (a .text .now) (a .at) _ (c .before .before .size-of .ensures) (c .before .if1 .taken) (c .none .ensures)
+    let n = c .before .before in
+    let s = n .before .before .before in
+    let a = s .args in
+    found (a .text .now) (a .at) (s .pre)
+    (at-none (a .text .now) (a .at) _ (n .size-of .ensures) (c .before .if1 .taken) (c .none .ensures))
 
 sub-if2 : tie.Need-sub-if2
 sub-if2 c = search needs
@@ -27,16 +31,22 @@ none-requires-2 c κs = search needs
 
 returns-2 : tie.Need-returns-2
 returns-2 c =
-    let a = c .before .before .before .before .before .before .args in
-    at-cut (a .text .now) (a .at) _ (c .before .before .before .size-of .ensures) (c .before .before .if1 .left) (omega arith) (c .none2 .ensures)
+    let n = c .before .before .before in
+    let s = n .before .before .before in
+    let a = s .args in
+    found (a .text .now) (a .at) (s .pre)
+    (at-cut (a .text .now) (a .at) _ (n .size-of .ensures) (c .before .before .if1 .left) (omega arith) (c .none2 .ensures))
 
 cast-t10 : tie.Need-cast-t10
 cast-t10 c = omega (arith, c .before .before .before .before .before .shared-slice-known .given (c .before .before .before .before .before .before .args .at))
 
 returns-3 : tie.Need-returns-3
 returns-3 c =
-    let a = c .before .before .before .before .before .before .args in
-    at-one (a .text .now) (a .at) _ (c .before .before .before .size-of .ensures) (c .before .before .if1 .left) (omega arith) (c .if3 .taken)
+    let n = c .before .before .before in
+    let s = n .before .before .before in
+    let a = s .args in
+    found (a .text .now) (a .at) (s .pre)
+    (at-one (a .text .now) (a .at) _ (n .size-of .ensures) (c .before .before .if1 .left) (room (s .pre) (c .before .if2 .left)) (c .if3 .taken))
 
 add-of-two : tie.Need-add-of-two
 add-of-two c = search needs
@@ -49,8 +59,12 @@ of-two-requires c κs = search needs
 
 returns-4 : tie.Need-returns-4
 returns-4 c =
-    let a = c .before .before .before .before .before .before .before .before .before .args in
-    at-two (a .text .now) (a .at) _ (c .before .before .before .before .before .before .size-of .ensures) (c .before .before .before .before .before .if1 .left) (omega arith) (c .before .before .before .if3 .left) (c .before .before .if4 .taken) (c .of-two .ensures)
+    let t = c .before .before in
+    let n = t .before .before .before .before in
+    let s = n .before .before .before in
+    let a = s .args in
+    found (a .text .now) (a .at) (s .pre)
+    (at-two (a .text .now) (a .at) _ (n .size-of .ensures) (t .before .before .before .if1 .left) (room (s .pre) (t .before .before .if2 .left)) (t .before .if3 .left) (t .if4 .taken) (c .of-two .ensures))
 
 add-of-three : tie.Need-add-of-three
 add-of-three c = search needs
@@ -69,8 +83,13 @@ of-three-requires c κs = search needs
 
 returns-5 : tie.Need-returns-5
 returns-5 c =
-    let a = c .before .before .before .before .before .before .before .before .before .before .before .args in
-    at-three (a .text .now) (a .at) _ (c .before .before .before .before .before .before .before .before .size-of .ensures) (c .before .before .before .before .before .before .before .if1 .left) (omega arith) (c .before .before .before .before .before .if3 .left) (c .before .before .before .before .if4 .left) (c .before .before .before .if5 .taken) (c .of-three .ensures)
+    let t = c .before .before .before in
+    let n = t .before .before .before .before .before in
+    let s = n .before .before .before in
+    let a = s .args in
+    found (a .text .now) (a .at) (s .pre)
+    (at-three (a .text .now) (a .at) _ (n .size-of .ensures)
+    (t .before .before .before .before .if1 .left) (room (s .pre) (t .before .before .before .if2 .left)) (t .before .before .if3 .left) (t .before .if4 .left) (t .if5 .taken) (c .of-three .ensures))
 
 add-of-four : tie.Need-add-of-four
 add-of-four c = search needs
@@ -95,8 +114,13 @@ of-four-requires c κs = search needs
 
 returns-6 : tie.Need-returns-6
 returns-6 c =
-    let a = c .before .before .before .before .before .before .before .before .before .before .before .before .args in
-    at-four (a .text .now) (a .at) _ (c .before .before .before .before .before .before .before .before .before .size-of .ensures) (c .before .before .before .before .before .before .before .before .if1 .left) (omega arith) (c .before .before .before .before .before .before .if3 .left) (c .before .before .before .before .before .if4 .left) (c .before .before .before .before .if5 .left) (c .of-four .ensures)
+    let t = c .before .before .before .before in
+    let n = t .before .before .before .before .before in
+    let s = n .before .before .before in
+    let a = s .args in
+    found (a .text .now) (a .at) (s .pre)
+    (at-four (a .text .now) (a .at) _ (n .size-of .ensures)
+    (t .before .before .before .before .if1 .left) (room (s .pre) (t .before .before .before .if2 .left)) (t .before .before .if3 .left) (t .before .if4 .left) (t .if5 .left) (c .of-four .ensures))
 
 pub scalar-at-spec : {M : Type 1} → statement M
 scalar-at-spec =
