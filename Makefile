@@ -9,7 +9,7 @@ LOG ?= target/gate.log
 # The scripts take these from the environment.
 export CC CFLAGS LDFLAGS PREFIX DESTDIR
 
-.PHONY: help tour versions demo sums test gate-times deps outside programs bench bench-list lib card card-test install uninstall install-test deb dist package-test boundary example lister-test python rust documents interop differential differential-slips scripts-test boundary-valgrind rust-outside race model writers cuts cuts-quick firmware firmware-quick edits clean
+.PHONY: help tour versions demo sums test gate-times deps outside programs bench bench-list lib card card-test install uninstall install-test deb dist package-test boundary example lister-test python python-types wheel wheel-test rust documents interop differential differential-slips scripts-test boundary-valgrind rust-outside race model writers cuts cuts-quick firmware firmware-quick edits clean
 
 # Two runs of rt in one repository write the same files, so with -j, too, one target is made after the other.
 .NOTPARALLEL:
@@ -104,7 +104,7 @@ uninstall:
 install-test:
 	tests/install/run.sh
 
-# Makes a package for Debian of what install puts in place, and the Python module (target/package). It needs cargo and dpkg-deb.
+# Makes a package for Debian of what install puts in place, and the Python package (target/package). It needs cargo and dpkg-deb.
 deb: lib card
 	@scripts/prove lister
 	@VERSION=$(VERSION) scripts/package deb
@@ -156,11 +156,24 @@ lister-test:
 	@scripts/prove lister free_ground uefi_lister sample sums
 	python3 tests/example/lister.py
 
-# Runs the example in the Python module's own text, and the module's tests (tests/python).
-python: lib
-	python3 hosts/python/card.py
+# Checks the Python package's types, runs the examples in its own text, and its tests (tests/python).
+python: lib python-types
+	PYTHONPATH=hosts/python python3 -m card
 	python3 tests/python/test_card.py
 	python3 tests/python/test_files.py
+
+# Checks the types of the Python package by mypy --strict (hosts/python/pyproject.toml). Where there is no mypy, it says so.
+python-types:
+	@mkdir -p target
+	@if command -v mypy >/dev/null 2>&1; then mypy --config-file hosts/python/pyproject.toml --cache-dir target/mypy hosts/python/card hosts/python/card_wheel.py; else echo "there is no mypy (make deps installs it on Debian)"; echo "python-types: skipped, no type was checked"; fi
+
+# Writes a wheel of the Python package with the shared library in it (target/wheel). pip installs it without a network.
+wheel: lib
+	@VERSION=$(VERSION) python3 hosts/python/card_wheel.py target/wheel
+
+# Installs the wheel into an empty folder, by pip where it is there, and uses it outside the repository (tests/install/wheel.py).
+wheel-test: wheel
+	python3 tests/install/wheel.py
 
 # Runs the tests of the Rust crate and of the example in its text. Cargo asks no registry.
 rust: lib rust-outside

@@ -15,7 +15,7 @@ same hosts/card/Cargo.toml "$(sed -n 's/^version = "\(.*\)"$/\1/p' hosts/card/Ca
 same hosts/card/Cargo.lock "$(sed -n 's/^version = "\(.*\)"$/\1/p' hosts/card/Cargo.lock | sort -u)"
 same hosts/rust/Cargo.lock "$(sed -n 's/^version = "\(.*\)"$/\1/p' hosts/rust/Cargo.lock | sort -u)"
 same hosts/card/card.1 "$(sed -n 's/^\.TH CARD 1 "" "card \(.*\)" .*$/\1/p' hosts/card/card.1)"
-same hosts/python/card.py "$(sed -n 's/^__version__ = "\(.*\)"$/\1/p' hosts/python/card.py)"
+same hosts/python/card/__init__.py "$(sed -n 's/^__version__ = "\(.*\)"$/\1/p' hosts/python/card/__init__.py)"
 same CHANGELOG.md "$(sed -n 's/^Version \([0-9.]*\) is .*$/\1/p' CHANGELOG.md)"
 [ "$status" -ne 0 ] || echo "versions: $version in all eight places"
 exit $status

@@ -812,7 +812,7 @@ class Library(unittest.TestCase):
 
     def run_python(self, code, *flags, module=MODULE.parent, **more):
         kept = {name: value for name, value in os.environ.items() if name not in ("CARD_LIBRARY", "LD_LIBRARY_PATH", "PYTHONPATH")}
-        return subprocess.run([sys.executable, *flags, "-c", code], env={**kept, "PYTHONPATH": str(module), **more}, capture_output=True, text=True, timeout=60)
+        return subprocess.run([sys.executable, *flags, "-c", code], env={**kept, "PYTHONPATH": str(module), **more}, capture_output=True, text=True, timeout=300)
 
     def finds(self, module, place, **more):
         """A copy of the package in a folder finds the library at a place where it is called libcard.so.0."""
