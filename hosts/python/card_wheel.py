@@ -1,6 +1,7 @@
 #!/usr/bin/env python3
-"""Writes the wheel of the package, by PEP 427 and with nothing but Python: card_wheel.py FOLDER, which make wheel calls. It is also the package's build backend (PEP 517), so that pip builds from this folder
-without a network. The wheel holds the package with target/lib/libcard.so.0 beside its files, and the licences. The same files give the same bytes: each has one date, and none is compressed.
+"""Writes the wheel of the package, by PEP 427 and with nothing but Python: card_wheel.py FOLDER, which make wheel calls. It is also the package's build backend (PEP 517), so that pip
+builds from this folder without a network. The wheel holds the package with target/lib/libcard.so.0 beside its files, and the licences. The same files give the same bytes: each has one
+date, and none is compressed.
 
 VERSION in the environment, the Makefile's, must be the package's own.
 """

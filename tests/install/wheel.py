@@ -1,6 +1,6 @@
 #!/usr/bin/env python3
-"""The wheel that make wheel has written: made again it has the same bytes, its RECORD names every file with the right sum, and unpacked into an empty folder, by pip where it is there, it works from a folder outside the
-repository with the library that it brought. The last line says what was tried, or the exit status is 1."""
+"""The wheel that make wheel has written: made again it has the same bytes, its RECORD names every file with the right sum, and unpacked into an empty folder, by pip where it is there, it
+works from a folder outside the repository with the library that it brought. The last line says what was tried, or the exit status is 1."""
 import base64
 import csv
 import hashlib

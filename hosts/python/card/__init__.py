@@ -1,7 +1,7 @@
-"""The card calls for Python, over libcard.so: lay, check, put, clear, write_payload, get, count, listing, disk_guid, free_runs; slot_map and what goes with it; read_label, write_label and judge, of the labels of maps; start_put, start_clear,
-next_stage, start_repair and next_repair, which change one block each, the reader of a card that was pulled between them (reader_..), and put_staged, clear_staged and repair_staged, which do all of it
-on a file; uefi_header and uefi_listing, which read the tables of other makers; payload_place and read_payload; crc32_next, the check sum of bytes that come in pieces; and Card, all of
-this on a card in a file or a device of any size.
+"""The card calls for Python, over libcard.so: lay, check, put, clear, write_payload, get, count, listing, disk_guid, free_runs; slot_map and what goes with it; read_label, write_label and
+judge, of the labels of maps; start_put, start_clear, next_stage, start_repair and next_repair, which change one block each, the reader of a card that was pulled between them (reader_..),
+and put_staged, clear_staged and repair_staged, which do all of it on a file; uefi_header and uefi_listing, which read the tables of other makers; payload_place and read_payload;
+crc32_next, the check sum of bytes that come in pieces; and Card, all of this on a card in a file or a device of any size.
 
 An image is any writable buffer of contiguous bytes, such as a bytearray or an mmap; the calls that only read take read-only ones too, such as bytes. No call
 copies the image. A call that is refused raises Refused, with the number of the refusal (NUMBERS), and changes nothing.
@@ -124,18 +124,18 @@ from dataclasses import replace
 
 from ._buffers import Buffer, WritableBuffer
 from ._files import Card
-from ._image import (FRESH, check, clear, clear_mapped, count, crc32_next, disk_guid, free_runs, get, judge, lay, listing, payload_place, put, put_lowest, put_mapped, read_label, read_payload, slot_map, uefi_header,
-                     uefi_listing, write_label, write_payload)
+from ._image import (FRESH, check, clear, clear_mapped, count, crc32_next, disk_guid, free_runs, get, judge, lay, listing, payload_place, put, put_lowest, put_mapped, read_label,
+                     read_payload, slot_map, uefi_header, uefi_listing, write_label, write_payload)
 from ._records import BASIC_DATA, RUNS, Dated, Entry, Flags, Header, Label, Record, Repair, SlotMap, Update
 from ._refusals import BACK, DISK_GUID, FRONT, NOWHERE, NUMBERS, SLOT, Refused
-from ._stages import (clear_staged, next_repair, next_stage, put_staged, reader_copy, reader_get, reader_listing, repair_staged, start_clear, start_put, start_repair)
+from ._stages import clear_staged, next_repair, next_stage, put_staged, reader_copy, reader_get, reader_listing, repair_staged, start_clear, start_put, start_repair
 
 __version__ = "0.1.0"
 __all__ = [
-    "BACK", "BASIC_DATA", "Buffer", "Card", "DISK_GUID", "Dated", "Entry", "FRESH", "FRONT", "Flags", "Header", "Label", "NOWHERE", "NUMBERS", "RUNS", "Record", "Refused", "Repair", "SLOT", "SlotMap", "Update", "WritableBuffer",
-    "check", "clear", "clear_mapped", "clear_staged", "count", "crc32_next", "disk_guid", "free_runs", "get", "judge", "lay", "listing", "next_repair", "next_stage", "payload_place", "put", "put_lowest", "put_mapped",
-    "put_staged", "read_label", "read_payload", "reader_copy", "reader_get", "reader_listing", "repair_staged", "replace", "slot_map", "start_clear", "start_put", "start_repair", "uefi_header", "uefi_listing",
-    "write_label", "write_payload",
+    "BACK", "BASIC_DATA", "Buffer", "Card", "DISK_GUID", "Dated", "Entry", "FRESH", "FRONT", "Flags", "Header", "Label", "NOWHERE", "NUMBERS", "RUNS", "Record", "Refused", "Repair", "SLOT",
+    "SlotMap", "Update", "WritableBuffer", "check", "clear", "clear_mapped", "clear_staged", "count", "crc32_next", "disk_guid", "free_runs", "get", "judge", "lay", "listing", "next_repair",
+    "next_stage", "payload_place", "put", "put_lowest", "put_mapped", "put_staged", "read_label", "read_payload", "reader_copy", "reader_get", "reader_listing", "repair_staged", "replace",
+    "slot_map", "start_clear", "start_put", "start_repair", "uefi_header", "uefi_listing", "write_label", "write_payload",
 ]
 
 # Each is called by the name that it is imported by, in a traceback and in a pickle too.

@@ -2,15 +2,12 @@
 from __future__ import annotations
 
 import collections.abc
-import contextlib
 import ctypes
 
 from . import _structs as structs
 
 TYPE_CHECKING = False
 if TYPE_CHECKING:
-    from collections.abc import Iterator
-
     from _typeshed import ReadableBuffer, WriteableBuffer
     from typing_extensions import TypeAlias
 
@@ -20,9 +17,12 @@ else:
     # Before 3.12 the interpreter has no name for a buffer.
     Buffer = WritableBuffer = getattr(collections.abc, "Buffer", object)
 
-_hold = ctypes.PYFUNCTYPE(ctypes.c_int, ctypes.py_object, ctypes.POINTER(structs.Held), ctypes.c_int)(("PyObject_GetBuffer", ctypes.pythonapi))
-_release = ctypes.PYFUNCTYPE(None, ctypes.POINTER(structs.Held))(("PyBuffer_Release", ctypes.pythonapi))
-nothing = ctypes.c_uint8()  # what a pointer to no bytes points to
+# By their index these are functions of our own, and nobody else sees their types.
+_hold, _release = ctypes.pythonapi["PyObject_GetBuffer"], ctypes.pythonapi["PyBuffer_Release"]
+_hold.restype, _hold.argtypes = ctypes.c_int, (ctypes.py_object, ctypes.POINTER(structs.Held), ctypes.c_int)
+_release.restype, _release.argtypes = None, (ctypes.POINTER(structs.Held),)
+_nothing = ctypes.c_uint8()
+NOTHING = ctypes.addressof(_nothing)  # the pointer to no bytes
 
 
 def view_of(data: Buffer, what: str) -> memoryview:
@@ -41,17 +41,27 @@ def fits(view: memoryview, what: str, written: bool) -> None:
         raise TypeError(f"{what} is read-only, and this call would write it")
 
 
-@contextlib.contextmanager
-def lent(data: Buffer, what: str = "the image", written: bool = False) -> Iterator[tuple[int, int]]:
-    """A pointer to a buffer's bytes and how many there are; the buffer is held meanwhile. An empty one has a pointer too, which is never read."""
-    with view_of(data, what) as view:
-        fits(view, what, written)
-        held = structs.Held()
-        _hold(view, held, 0)
+class lent:
+    """A pointer to a buffer's bytes and how many there are, in a `with`; the buffer is held meanwhile. An empty one has a pointer too, which is never read."""
+
+    __slots__ = ("_view", "_held")
+
+    def __init__(self, data: Buffer, what: str = "the image", written: bool = False) -> None:
+        self._view = view_of(data, what)
         try:
-            yield held.place or ctypes.addressof(nothing), view.nbytes
-        finally:
-            _release(held)
+            fits(self._view, what, written)
+        except BaseException:
+            self._view.release()
+            raise
+
+    def __enter__(self) -> tuple[int, int]:
+        self._held = structs.Held()
+        _hold(self._view, self._held, 0)
+        return self._held.place or NOTHING, self._view.nbytes
+
+    def __exit__(self, *_: object) -> None:
+        _release(self._held)
+        self._view.release()
 
 
 def apart(image: tuple[int, int], data: tuple[int, int]) -> None:

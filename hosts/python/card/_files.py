@@ -12,7 +12,7 @@ import uuid
 from collections.abc import Iterable, Iterator
 
 from . import _library as c
-from ._buffers import Buffer, fits, lent, nothing, view_of
+from ._buffers import NOTHING, Buffer, fits, lent, view_of
 from ._records import Dated, Entry, Label, Record, Repair, SlotMap, Update
 from ._records import dated_out, guid_in, label_in, label_out, map_out, number, present_out, record_in, repair_in, repair_out, rows_of, runs_of, size_in, slot_in, update_in, update_out
 from ._refusals import BACK, FRONT, Refused, take
@@ -115,7 +115,7 @@ class Card:
         self._known = False
         length, b = os.lseek(self._opened(), 0, os.SEEK_END), self.block_size
         self._length, self.blocks = length, length // b if b else 0
-        empty = ctypes.addressof(nothing), 0
+        empty = NOTHING, 0
         told = c.card_window_check(*empty, *empty, self.blocks, b).number
         if told != 32:
             raise Refused(told)

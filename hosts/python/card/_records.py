@@ -1,5 +1,5 @@
-"""The values that calls take and give, as frozen dataclasses: records and their flags, slot maps, labels, states between stages and headers; and how each becomes a struct of the library and is made of one. Numbers are looked
-at here, before the library is called. Annotations are values in this file, so that the dataclasses' fields have types and no texts."""
+"""The values that calls take and give, as frozen dataclasses: records and their flags, slot maps, labels, states between stages and headers; and how each becomes a struct of the library
+(.._in) and is made of one (.._out). Numbers are looked at here, before the library is called. Annotations are values in this file, so that the dataclasses' fields have types and no texts."""
 import ctypes
 import operator
 import uuid

@@ -1,4 +1,5 @@
-"""The structs of include/card.h, as ctypes has them, and the interpreter's own of a buffer. The sizes are compared when the package is imported: it is for x86-64. The lines with types name the fields for who reads the code."""
+"""The structs of include/card.h, as ctypes has them, and the interpreter's own of a buffer. The sizes are compared when the package is imported: it is for x86-64. The lines above
+_fields_ say of each field what Python sees, for mypy."""
 from __future__ import annotations
 
 import ctypes
@@ -180,8 +181,8 @@ class Header(ctypes.Structure):
     entries: int
     entry_size: int
     array_sum: int
-    _fields_ = [("major", c_uint16), ("minor", c_uint16), ("size", c_uint32), ("sum", c_uint32), ("reserved", c_uint32), ("block", c_uint64), ("other_block", c_uint64), ("first_usable", c_uint64),
-                ("last_usable", c_uint64), ("guid", Guid), ("array_block", c_uint64), ("entries", c_uint32), ("entry_size", c_uint32), ("array_sum", c_uint32)]
+    _fields_ = [("major", c_uint16), ("minor", c_uint16), ("size", c_uint32), ("sum", c_uint32), ("reserved", c_uint32), ("block", c_uint64), ("other_block", c_uint64),
+                ("first_usable", c_uint64), ("last_usable", c_uint64), ("guid", Guid), ("array_block", c_uint64), ("entries", c_uint32), ("entry_size", c_uint32), ("array_sum", c_uint32)]
 
 
 class HeaderRead(ctypes.Structure):
@@ -239,11 +240,16 @@ class Held(ctypes.Structure):
     """The interpreter's own description of a buffer, Py_buffer."""
 
     place: int | None
-    _fields_ = [("place", c_void_p), ("owner", c_void_p), ("length", c_ssize_t), ("item_size", c_ssize_t), ("read_only", c_int), ("dimensions", c_int), ("format", c_void_p), ("shape", c_void_p), ("strides", c_void_p),
-                ("suboffsets", c_void_p), ("internal", c_void_p)]
+    _fields_ = [("place", c_void_p), ("owner", c_void_p), ("length", c_ssize_t), ("item_size", c_ssize_t), ("read_only", c_int), ("dimensions", c_int), ("format", c_void_p),
+                ("shape", c_void_p), ("strides", c_void_p), ("suboffsets", c_void_p), ("internal", c_void_p)]
 
 
-for _struct, _size in ((Flags, 16), (Bits, 16), (Record, 136), (Entry, 128), (Guid, 16), (Answer, 16), (Stored, 24), (Count, 16), (Next, 8), (Row, 136), (Map, 16), (Made, 32), (Carried, 32), (Label, 8), (LabelRead, 20),
-                       (Judged, 24), (Copy, 8), (ReaderCount, 8), (SlotRead, 152), (ReaderSlot, 144), (Spot, 24), (Header, 88), (HeaderRead, 96), (Update, 176), (UpdateStep, 192), (Repair, 48), (RepairStep, 64), (Held, 80)):
+_SIZES = (
+    (Flags, 16), (Bits, 16), (Record, 136), (Entry, 128), (Guid, 16), (Answer, 16), (Stored, 24), (Count, 16), (Next, 8), (Row, 136), (Map, 16), (Made, 32), (Carried, 32), (Label, 8),
+    (LabelRead, 20), (Judged, 24), (Copy, 8), (ReaderCount, 8), (SlotRead, 152), (ReaderSlot, 144), (Spot, 24), (Header, 88), (HeaderRead, 96), (Update, 176), (UpdateStep, 192), (Repair, 48),
+    (RepairStep, 64), (Held, 80),
+)
+
+for _struct, _size in _SIZES:
     if ctypes.sizeof(_struct) != _size:
         raise ImportError(f"{_struct.__name__} has {ctypes.sizeof(_struct)} bytes here, and not {_size}: this module is for x86-64")
