@@ -12,10 +12,10 @@ from ._refusals import BACK, FRONT
 TYPE_CHECKING = False
 if TYPE_CHECKING:
     from collections.abc import Callable
-    from typing import TypeVar
+    from typing import TypeVar, Union
 
     R = TypeVar("R", bound=ctypes.Structure)
-    Type = type[ctypes._CData]
+    Taken = Union[type[ctypes.Structure], type[c_void_p], type[c_size_t], type[c_uint32], type[c_uint64]]
 
 _NAMES = ("libcard.so.0", "libcard.so")
 
@@ -50,14 +50,14 @@ _slice = (c_void_p, c_size_t)
 _image = (*_slice, c_uint64)
 
 
-def _call(name: str, result: type[R], *arguments: Type) -> Callable[..., R]:
+def _call(name: str, result: type[R], *arguments: Taken) -> Callable[..., R]:
     """A call that answers with a struct."""
     call = lib[name]
     call.restype, call.argtypes = result, arguments
     return call
 
 
-def _plain(name: str, *arguments: Type) -> Callable[..., int]:
+def _plain(name: str, *arguments: Taken) -> Callable[..., int]:
     """A call that answers with a number of 32 bits."""
     call = lib[name]
     call.restype, call.argtypes = c_uint32, arguments
