@@ -9,7 +9,7 @@ LOG ?= target/gate.log
 # The scripts take these from the environment.
 export CC CFLAGS LDFLAGS PREFIX DESTDIR
 
-.PHONY: help tour versions demo sums test gate-times deps outside programs bench bench-list lib card card-test install uninstall install-test deb dist package-test boundary example lister-test python python-types wheel wheel-test rust documents interop differential differential-slips scripts-test boundary-valgrind rust-outside race model writers cuts cuts-quick firmware firmware-quick edits clean
+.PHONY: help tour versions demo sums test gate-times deps outside programs bench bench-list lib card card-test install uninstall install-test deb dist package-test boundary guard example lister-test python python-types wheel wheel-test rust documents interop differential differential-slips scripts-test boundary-valgrind rust-outside race model writers cuts cuts-quick firmware firmware-quick edits clean
 
 # Two runs of rt in one repository write the same files, so with -j, too, one target is made after the other.
 .NOTPARALLEL:
@@ -139,6 +139,12 @@ boundary: lib
 	target/stack
 	$(CC) -std=c11 -Wall -Wextra $(CFLAGS) -Iinclude -o target/boundary tests/c/boundary.c target/lib/libcard.a $(LDFLAGS)
 	target/boundary
+
+# Makes 200,000 calls of every export of include/card.h between pages that cannot be touched (tests/c). Variables: SEED, CALLS.
+guard: lib
+	$(CC) -std=c11 -Wall -Wextra -pedantic $(CFLAGS) -Iinclude -o target/guard tests/c/guard.c target/lib/libcard.a $(LDFLAGS)
+	tests/c/exports.sh target/guard names
+	target/guard $(or $(SEED),1) $(or $(CALLS),200000)
 
 # Compares the stored cards of the gate with those of the independent maker.
 example:
