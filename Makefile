@@ -9,7 +9,7 @@ LOG ?= target/gate.log
 # The scripts take these from the environment.
 export CC CFLAGS LDFLAGS PREFIX DESTDIR
 
-.PHONY: help tour versions demo sums test gate-times deps outside programs bench bench-list lib card card-test install uninstall install-test deb dist package-test boundary guard example lister-test python python-types wheel wheel-test rust documents interop differential differential-slips scripts-test boundary-valgrind rust-outside race model writers cuts cuts-quick firmware firmware-quick edits clean
+.PHONY: help tour versions demo sums test gate-times deps outside programs bench bench-list lib card card-test install uninstall install-test deb dist package-test boundary guard examples example lister-test python python-types wheel wheel-test rust documents interop differential differential-slips scripts-test boundary-valgrind rust-outside race model writers cuts cuts-quick firmware firmware-quick edits clean
 
 # Two runs of rt in one repository write the same files, so with -j, too, one target is made after the other.
 .NOTPARALLEL:
@@ -145,6 +145,10 @@ guard: lib
 	$(CC) -std=c11 -Wall -Wextra -pedantic $(CFLAGS) -Iinclude -o target/guard tests/c/guard.c target/lib/libcard.a $(LDFLAGS)
 	tests/c/exports.sh target/guard names
 	target/guard $(or $(SEED),1) $(or $(CALLS),200000)
+
+# Builds the three pages of examples/c as a user would, by both libraries, and runs them in a row: lay, update, cuts, repair, list (tests/examples).
+examples: lib
+	tests/examples/run.sh
 
 # Compares the stored cards of the gate with those of the independent maker.
 example:

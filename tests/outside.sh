@@ -98,6 +98,7 @@ run lib "the library for C" x86-64 cc
 run card "the card command, built" x86-64 cargo cc
 run boundary "every call across the boundary to C" x86-64 cc
 run guard "every export between pages that cannot be touched" x86-64 cc
+run examples "the pages of examples/c, built and run" x86-64 cc
 run boundary-valgrind "every call across the boundary, under valgrind" x86-64 cc valgrind
 run python-types "the Python package's types" python3
 run python "the Python package's examples and tests" x86-64 python3 cc

@@ -18,7 +18,7 @@ used() {
     [ "$("$1/bin/card" --version)" = "card $version" ] || fail "card of $1 has another version"
     said=$(cd "$there" && CARD_LIBRARY="$1/lib/libcard.so.0" PYTHONPATH="$2" python3 -c 'import card; print([e.record.name for e in card.listing(open("a.img", "rb").read(), 512)])') || fail "the Python package of $1 fails"
     [ "$said" = "['north ridge']" ] || fail "the Python package of $1 said: $said"
-    for file in include/card.h lib/libcard.a lib/libcard.so lib/pkgconfig/card.pc bin/card-lister share/doc/card/LICENSE share/doc/card/NOTICE share/doc/card/CHANGELOG.md lib/python3/dist-packages/card/py.typed share/bash-completion/completions/card; do
+    for file in include/card.h lib/libcard.a lib/libcard.so lib/pkgconfig/card.pc bin/card-lister share/doc/card/LICENSE share/doc/card/NOTICE share/doc/card/CHANGELOG.md lib/python3/dist-packages/card/py.typed share/doc/card/examples/list.c share/bash-completion/completions/card; do
         [ -f "$1/$file" ] || fail "$1 has no $file"
     done
     rm "$there/a.img"

@@ -1,0 +1,165 @@
+/* What the three examples share: the two windows of a card in a file or a device, and words for a refusal.
+   Of a card only the windows are read, some 33 KiB, however large it is; and only blocks that have changed are written. */
+#ifndef CARD_FILE_H
+#define CARD_FILE_H
+#define _DEFAULT_SOURCE
+#include <card.h>
+#include <errno.h>
+#include <fcntl.h>
+#include <inttypes.h>
+#include <stdio.h>
+#include <stdlib.h>
+#include <string.h>
+#include <sys/file.h>
+#include <unistd.h>
+
+#define ARRAY 16384
+static const char unchanged[] = "Nothing was changed.";
+enum { DONE = 0, REFUSED = 1, FAILED = 2 }; /* the exit status; FAILED also where the words of the command are not understood */
+
+typedef struct card_file {
+    const char *path;
+    int fd;
+    uint64_t size, b, blocks;
+    size_t head_len, tail_len;
+    uint8_t head[2 * 4096 + ARRAY], tail[4096 + ARRAY];
+} card_file;
+
+/* The windows as a call takes them. */
+#define WINDOWS(f) (f)->head, (f)->head_len, (f)->tail, (f)->tail_len, (f)->blocks, (f)->b
+
+/* That reading or writing failed is no verdict on the card. */
+static inline void fail(const card_file *f, const char *what, const char *left) {
+    bool name = errno == ENOENT || errno == EACCES || errno == EISDIR;
+    fprintf(stderr, "%s: %s: %s. %s Next: %s.\n", f->path, what, strerror(errno), left, name ? "look at the name, and at who may open it" : "look at the device and its cable, then run list");
+    exit(FAILED);
+}
+
+/* A number of a command's word; the program ends with its usage where it is none. */
+static inline uint64_t number_in(const char *word, const char *usage) {
+    char *end;
+    errno = 0;
+    uint64_t n = strtoull(word, &end, 10);
+    if (errno != 0 || *end != '\0' || word[0] < '0' || word[0] > '9') {
+        fprintf(stderr, "%s is no number. Usage: %s\n", word, usage);
+        exit(FAILED);
+    }
+    return n;
+}
+
+/* Waits for whoever else has the file open here, so that two updates come one after the other. */
+static inline void open_card(card_file *f, const char *path, int flags) {
+    f->path = path;
+    f->fd = open(path, flags, 0666);
+    if (f->fd < 0 || flock(f->fd, flags == O_RDONLY ? LOCK_SH : LOCK_EX) != 0) fail(f, "cannot be opened", unchanged);
+    off_t size = lseek(f->fd, 0, SEEK_END);
+    if (size < 0) fail(f, "has no length", unchanged);
+    f->size = (uint64_t)size;
+}
+
+static inline void read_bytes(const card_file *f, uint8_t *to, size_t n, uint64_t at) {
+    for (ssize_t got; n > 0; to += got, at += (uint64_t)got, n -= (size_t)got) {
+        got = pread(f->fd, to, n, (off_t)at);
+        if (got == 0) errno = EIO;
+        if (got <= 0) fail(f, "cannot be read", unchanged);
+    }
+}
+
+/* Takes the file as a card of blocks of b bytes. A file that is too short for windows gets empty ones: every call refuses it by 8 or 10 before it looks at them. */
+static inline void take_windows(card_file *f, uint64_t b) {
+    f->b = b;
+    f->blocks = f->size / b;
+    bool fits = f->blocks > 2 * ARRAY / b + 3;
+    f->head_len = fits ? 2 * b + ARRAY : 0;
+    f->tail_len = fits ? b + ARRAY : 0;
+    read_bytes(f, f->head, f->head_len, 0);
+    read_bytes(f, f->tail, f->tail_len, f->blocks * b - f->tail_len);
+}
+
+/* The block size at which the reader takes a table, 512 or 4,096. Where it takes none, 512 is left, and the answer is the reader's there. */
+static inline card_copy find_card(card_file *f) {
+    take_windows(f, 4096);
+    card_copy copy = card_window_reader_copy(WINDOWS(f));
+    if (copy.number == 0) return copy;
+    take_windows(f, 512);
+    return card_window_reader_copy(WINDOWS(f));
+}
+
+/* Writes one block at a place, whole. */
+static inline void write_block(const card_file *f, const uint8_t *from, uint64_t at, const char *left) {
+    for (uint64_t done = 0; done < f->b;) {
+        ssize_t n = pwrite(f->fd, from + done, f->b - done, (off_t)(at + done));
+        if (n < 0) fail(f, "cannot be written", left);
+        done += (uint64_t)n;
+    }
+}
+
+/* Writes the blocks of the windows that differ from what the file has, and has the device store them. Gives the last one's number. */
+static inline uint64_t store_changed(const card_file *f, card_file *was, const char *left) {
+    uint64_t block = 0;
+    for (uint64_t at = 0; at < f->head_len; at += f->b) {
+        if (memcmp(f->head + at, was->head + at, f->b) != 0) write_block(f, f->head + at, at, left), block = at / f->b;
+    }
+    for (uint64_t at = 0, base = (f->blocks - ARRAY / f->b - 1) * f->b; at < f->tail_len; at += f->b) {
+        if (memcmp(f->tail + at, was->tail + at, f->b) != 0) write_block(f, f->tail + at, base + at, left), block = (base + at) / f->b;
+    }
+    if (fsync(f->fd) != 0) fail(f, "was not stored", left);
+    *was = *f;
+    return block;
+}
+
+/* What a number means, and what to do next. */
+static const struct { uint32_t number; const char *what, *next; } words[] = {
+    {3, "the file has more bytes than 64 bits count", "take a smaller file"},
+    {4, "a header does not begin with EFI PART", "if there is a good copy, update repairs it; else look whether this is a card"},
+    {5, "a header's check sum does not match", "if there is a good copy, update repairs it; of another maker's card, card uefi shows the table"},
+    {6, "a table's check sum does not match its entries", "if there is a good copy, update repairs it"},
+    {8, "the file is shorter than three blocks", "take a longer file"},
+    {10, "there is no room between the two tables", "take a longer file, at least 34,816 bytes"},
+    {16, "a table is not as lay writes it, or an entry is wrong", "compare the file's length with the card's; of another maker's card, card uefi shows the table"},
+    {17, "the two tables differ", "update takes the one that readers show, and repairs the other"},
+    {18, "there is no such slot", "name a slot from 1 to 128"},
+    {20, "the last block comes before the first", "name the blocks the other way round"},
+    {21, "a block is not one of the usable ones", "list shows the free ranges"},
+    {22, "another slot has one of the blocks", "list shows the free ranges"},
+    {25, "another slot has this partition GUID", "run it again: the GUID is drawn anew"},
+    {27, "neither table can be read", "look whether this is a card of this length; of another maker's card, card uefi shows the table"},
+};
+
+/* Says what was refused, what is left, and what to do. slot is the answer's, or else differs; place is the check's. */
+static inline int refuse(const card_file *f, const char *what, const char *left, uint32_t number, uint32_t slot, uint32_t place) {
+    const char *means = "a number that this example does not expect", *next = "look the number up in card.h";
+    for (size_t k = 0; k < sizeof words / sizeof *words; k++) {
+        if (words[k].number == number) means = words[k].what, next = words[k].next;
+    }
+    fprintf(stderr, "%s: %s: refused %" PRIu32 ", %s", f->path, what, number, means);
+    if (place == CARD_PLACE_FRONT || place == CARD_PLACE_BACK) fprintf(stderr, " (the %s table)", place == CARD_PLACE_FRONT ? "front" : "back");
+    if (place == CARD_PLACE_DISK_GUID) fprintf(stderr, " (in the disk GUID)");
+    if (slot) fprintf(stderr, " (slot %" PRIu32 ")", slot);
+    fprintf(stderr, ". %s Next: %s.\n", left, next);
+    return REFUSED;
+}
+
+/* A GUID of version 4, drawn from the system. */
+static inline gpt_guid drawn_guid(const card_file *f) {
+    gpt_guid guid;
+    if (getentropy(&guid, sizeof guid) != 0) fail(f, "no random bytes for a GUID", unchanged);
+    guid.time_high = (uint16_t)((guid.time_high & 0x0FFF) | 0x4000);
+    guid.tail[0] = (uint8_t)((guid.tail[0] & 0x3F) | 0x80);
+    return guid;
+}
+
+/* Whether a name has at most 36 letters, all of ASCII. */
+static inline bool name_fits(const char *name) {
+    size_t n = 0;
+    while ((unsigned char)name[n] >= 0x20 && (unsigned char)name[n] < 0x7F) n++;
+    return name[n] == '\0' && n <= 36;
+}
+
+/* A record of the type "basic data", with a name that fits. */
+static inline gpt_partition record(uint64_t first, uint64_t last, gpt_guid guid, const char *name) {
+    gpt_partition p = {.part_type_guid = {0xEBD0A0A2, 0xB9E5, 0x4433, {0x87, 0xC0, 0x68, 0xB6, 0xB7, 0x26, 0x99, 0xC7}}, .part_guid = guid, .first_lba = first, .last_lba = last};
+    for (int i = 0; i < 36 && name[i]; i++) p.name[i] = (unsigned char)name[i];
+    return p;
+}
+#endif

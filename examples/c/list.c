@@ -1,0 +1,76 @@
+/* Lists a card of any size in a file or a device: each used slot with its blocks, type, GUID and name, the date of its map where it has a label, and the free ranges.
+   A card that was pulled in the middle of an update is listed as readers show it, without dates and free ranges.
+
+   Usage: list FILE. Exit status 0 for a whole card, 1 where the check refuses, 2 not understood, or reading failed. */
+#include "card_file.h"
+
+/* A GUID in its usual form, the first three fields as numbers. */
+static void print_guid(gpt_guid guid) {
+    printf("%08" PRIx32 "-%04" PRIx16 "-%04" PRIx16 "-", guid.time_low, guid.time_mid, guid.time_high);
+    for (int i = 0; i < 8; i++) printf(i == 2 ? "-%02x" : "%02x", guid.tail[i]);
+}
+
+static void print_utf8(uint32_t c) {
+    if (c < 0x80) printf("%c", (int)c);
+    else if (c < 0x800) printf("%c%c", (int)(0xC0 | c >> 6), (int)(0x80 | (c & 63)));
+    else if (c < 0x10000) printf("%c%c%c", (int)(0xE0 | c >> 12), (int)(0x80 | (c >> 6 & 63)), (int)(0x80 | (c & 63)));
+    else printf("%c%c%c%c", (int)(0xF0 | c >> 18), (int)(0x80 | (c >> 12 & 63)), (int)(0x80 | (c >> 6 & 63)), (int)(0x80 | (c & 63)));
+}
+
+/* A name as UTF-8, up to its first zero; half of a pair and control characters as a question mark, so that a terminal shows the card and does not obey it. */
+static void print_name(const uint16_t *name) {
+    for (int i = 0; i < 36 && name[i] != 0; i++) {
+        uint32_t c = name[i];
+        bool pair = c >= 0xD800 && c < 0xDC00 && i < 35 && name[i + 1] >= 0xDC00 && name[i + 1] < 0xE000;
+        if (pair) c = 0x10000 + ((c & 0x3FF) << 10) + (name[++i] & 0x3FF);
+        bool odd = c < 0x20 || (c >= 0x7F && c < 0xA0) || (c >= 0xD800 && c < 0xE000);
+        print_utf8(odd ? '?' : c);
+    }
+}
+
+/* The label stands in no window, so its 13 bytes are read where the library says that they are. */
+static void print_date(const card_file *f, uint32_t slot) {
+    uint8_t bytes[13];
+    card_spot spot = card_window_payload_place(WINDOWS(f), slot, 0, sizeof bytes);
+    if (spot.number != 0) return;
+    read_bytes(f, bytes, sizeof bytes, spot.at);
+    card_label_read read = card_window_read_label(WINDOWS(f), slot, bytes, sizeof bytes);
+    if (read.number == 0) printf(" of %04d-%02d-%02d, style %d, sheet %d", read.label.year, read.label.month, read.label.day, read.label.style, read.label.sheet);
+    else if (read.number == CARD_BAD_DATE) printf(" with a label that has no date");
+}
+
+static void print_free(const card_file *f) {
+    uint64_t starts[CARD_RUNS], lengths[CARD_RUNS];
+    card_count runs = card_window_free_runs(WINDOWS(f), starts, CARD_RUNS, lengths, CARD_RUNS);
+    for (uint32_t k = 0; k < runs.count; k++) printf("free: %" PRIu64 " to %" PRIu64 "\n", starts[k], starts[k] + lengths[k] - 1);
+}
+
+int main(int n, char **word) {
+    static card_file f;
+    static card_row rows[128];
+    if (n != 2) {
+        fprintf(stderr, "usage: list FILE\n");
+        return FAILED;
+    }
+    open_card(&f, word[1], O_RDONLY);
+    card_copy copy = find_card(&f);
+    if (copy.number != 0) return refuse(&f, "not listed", unchanged, copy.number, 0, 0);
+    card_answer check = card_window_check(WINDOWS(&f));
+    gpt_count used = card_window_reader_list(WINDOWS(&f), (uint8_t *)rows, sizeof rows);
+    for (uint32_t k = 0; k < used.count; k++) {
+        const gpt_entry *e = &rows[k].entry;
+        printf("slot %" PRIu64 ": %" PRIu64 " to %" PRIu64 ", type ", rows[k].slot, e->first_lba, e->last_lba);
+        print_guid(e->part_type_guid);
+        printf(", GUID ");
+        print_guid(e->part_guid);
+        printf(", \"");
+        print_name(e->name);
+        printf("\"");
+        print_date(&f, (uint32_t)rows[k].slot);
+        printf("\n");
+    }
+    print_free(&f);
+    printf("used %" PRIu32 " of 128; %" PRIu64 " blocks of %" PRIu64 " bytes; %s\n", used.count, f.blocks, f.b, check.number == 0 ? "whole" : copy.back ? "the back table" : "the front table");
+    if (fflush(stdout) != 0) return FAILED;
+    return check.number == 0 ? DONE : refuse(&f, "listed, but not whole", unchanged, check.number, check.differs, check.place);
+}
