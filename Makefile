@@ -9,7 +9,7 @@ LOG ?= target/gate.log
 # The scripts take these from the environment.
 export CC CFLAGS LDFLAGS PREFIX DESTDIR
 
-.PHONY: help tour versions demo sums test gate-times deps outside programs bench bench-list lib card card-test install uninstall install-test deb dist package-test boundary guard examples example lister-test python python-types wheel wheel-test rust documents interop differential differential-slips scripts-test boundary-valgrind rust-outside race model writers cuts cuts-quick firmware firmware-quick edits clean
+.PHONY: help tour versions demo sums test gate-times deps outside programs bench bench-list lib card card-test install uninstall install-test deb dist package-test boundary guard examples example lister-test python python-types wheel wheel-test rust documents interop differential differential-slips scripts-test boundary-valgrind rust-outside race model corpus writers cuts cuts-quick firmware firmware-quick edits clean
 
 # Two runs of rt in one repository write the same files, so with -j, too, one target is made after the other.
 .NOTPARALLEL:
@@ -238,6 +238,10 @@ race: lib
 model: lib
 	python3 tests/model/run.py --alone --seed 1 --cases 75000
 	python3 tests/model/run.py $(if $(SEED),--seed $(SEED)) --seconds $(or $(SECONDS),30)
+
+# Runs 171 images that once showed a defect, or that every reader must survive, through every reader, and compares what each says (tests/corpus).
+corpus: lib
+	python3 tests/corpus/run.py
 
 # Makes the same calls on two files that have one table and other tiles, and compares every answer and both tables (tests/writers). Variables: SEED, CALLS.
 writers: lib

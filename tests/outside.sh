@@ -105,6 +105,7 @@ run python "the Python package's examples and tests" x86-64 python3 cc
 run wheel-test "the wheel, installed and used" x86-64 python3 cc
 run race "calls beside a second writer" x86-64 python3 cc
 run model "every call beside a model from the documents" x86-64 python3 cc
+run corpus "images that every reader must survive" x86-64 python3 cc
 run writers "two writers on one card" x86-64 python3 cc
 run cuts-quick "cards cut between stages" x86-64 python3 cc
 run rust "the Rust crate's tests" x86-64 cargo cc
