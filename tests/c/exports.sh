@@ -3,7 +3,7 @@
 cd "$(dirname "$0")/../.." || exit 1
 mkdir -p target
 "$@" | sort >target/exports.said || exit 1
-sed -n 's/^[a-z][a-z0-9_ ]* \**\(\(card\|gpt\)_[a-z0-9_]*\)(.*/\1/p' include/card.h | sort >target/exports.declared
+sed -n '/^static /d; s/^[a-z][a-z0-9_ ]* \**\(\(card\|gpt\)_[a-z0-9_]*\)(.*/\1/p' include/card.h | sort >target/exports.declared
 [ -s target/exports.declared ] || { echo "exports: no function is found in include/card.h"; exit 1; }
 diff target/exports.declared target/exports.said >target/exports.diff && exit
 sed -n -e "s/^< \(.*\)/exports: \1 is declared in include\/card.h, and $(basename "$1") has no row for it/p" -e "s/^> \(.*\)/exports: $(basename "$1") has a row for \1, which include\/card.h does not declare/p" target/exports.diff

@@ -23,7 +23,7 @@
 #define SLICES 4
 #define PAINT 0x5A
 #define ARRAY 16384
-#define LAST_NUMBER CARD_EMPTY_LIST
+#define LAST_NUMBER CARD_LONG_NAME
 
 static void die(const char *what) {
     printf("guard: %s\n", what);
@@ -456,9 +456,11 @@ static gpt_settings draw_settings(void) {
 static struct drawn {
     uint8_t *img, *head, *tail, *out;
     const uint8_t *bytes, *was, *is, *labels;
-    size_t img_len, head_len, tail_len, out_len, bytes_len, was_len, is_len, labels_len, starts_len, lengths_len, slots_len;
+    size_t img_len, head_len, tail_len, out_len, bytes_len, was_len, is_len, labels_len, starts_len, lengths_len, slots_len, text_len, units_len;
     uint64_t *starts, *lengths;
     const uint32_t *slots;
+    const uint16_t *units;
+    const char *text;
     uint64_t b, blocks, index, start, count, any, place;
     uint32_t slot, after, stage, entry_size, any32;
     gpt_guid guid;
@@ -476,7 +478,7 @@ static struct drawn {
     gpt_signature signature;
 } d;
 
-enum lends { IMAGE = 1, WINDOWS = 2, WRITES = 4, BYTES = 8, OUT = 16, SLOTS = 32, RUNS = 64, LABELS = 128, PAIR = 256 };
+enum lends { IMAGE = 1, WINDOWS = 2, WRITES = 4, BYTES = 8, OUT = 16, SLOTS = 32, RUNS = 64, LABELS = 128, PAIR = 256, GUID = 512, UTF8 = 1024, UNITS = 2048, SHORT = 4096 };
 
 static void lend_windows(bool writes) {
     size_t head = head_of(b == 4096 ? 4096 : 512), tail = tail_of(b == 4096 ? 4096 : 512);
@@ -536,6 +538,50 @@ static void lend_labels(void) {
     d.labels = lend(row, d.labels_len, false);
 }
 
+/* The text of a GUID, at times cut, longer or with another byte. */
+static void lend_guid_text(void) {
+    char text[40];
+    gpt_guid guid = guid_of_dice();
+    const uint8_t *t = guid.tail;
+    snprintf(text, sizeof text, below(2) ? "%08x-%04x-%04x-%02x%02x-%02x%02x%02x%02x%02x%02xab" : "%08X-%04X-%04X-%02X%02X-%02X%02X%02X%02X%02X%02X--", (unsigned)guid.time_low,
+             guid.time_mid, guid.time_high, t[0], t[1], t[2], t[3], t[4], t[5], t[6], t[7]);
+    if (below(3) == 0) text[below(38)] = (char)dice();
+    d.text_len = below(4) ? 36 : below(39);
+    d.text = lend(text, d.text_len, false);
+}
+
+/* A text of characters of one to four bytes, at times too long, cut or with another byte. */
+static void lend_utf8(void) {
+    static const char *const characters[] = {"a", "\xC3\xA9", "\xE2\x82\xAC", "\xF0\x9F\x94\xA5", "\xC2\x80", "\xE0\xA0\x80", "\xED\x9F\xBF", "\xEF\xBF\xBF", "\xF4\x8F\xBF\xBF"};
+    char text[200];
+    size_t n = 0;
+    for (uint64_t count = below(3) ? below(20) : below(40); count > 0; count--) {
+        const char *c = characters[below(sizeof characters / sizeof *characters)];
+        memcpy(text + n, c, strlen(c));
+        n += strlen(c);
+    }
+    if (n > 0 && below(4) == 0) text[below(n)] = (char)dice();
+    if (n > 0 && below(4) == 0) n -= below(n < 4 ? n : 4);
+    d.text_len = n;
+    d.text = lend(text, n, false);
+}
+
+/* UTF-16 units, paired and lone surrogates among them. */
+static void lend_units(void) {
+    uint16_t units[50];
+    d.units_len = below(3) ? below(12) : below(50);
+    for (size_t i = 0; i < d.units_len; i++) units[i] = (uint16_t)PICK(0x41, 0xE9, 0x20AC, 0xD800 + below(0x400), 0xDC00 + below(0x400), below(40) ? 0xFFFF : 0, dice());
+    d.units = lend(units, d.units_len * sizeof *units, false);
+}
+
+/* Room for a text: about as much as it takes. */
+static void lend_room(void) {
+    uint8_t room[200];
+    scatter(room, sizeof room);
+    d.out_len = below(sizeof room + 1);
+    d.out = lend(room, d.out_len, true);
+}
+
 static void lend_all(unsigned lends) {
     bool writes = lends & WRITES;
     lent = 0;
@@ -547,6 +593,10 @@ static void lend_all(unsigned lends) {
     if (lends & SLOTS) lend_slots();
     if (lends & LABELS) lend_labels();
     if (lends & RUNS) d.starts = lend_run(&d.starts_len), d.lengths = lend_run(&d.lengths_len);
+    if (lends & SHORT) lend_room();
+    if (lends & GUID) lend_guid_text();
+    if (lends & UTF8) lend_utf8();
+    if (lends & UNITS) lend_units();
     if (lends & PAIR) d.was = lend_entry(&d.was_len), d.is = lend_entry(&d.is_len);
 }
 
@@ -584,6 +634,7 @@ static void draw_numbers(void) {
 #define IMG d.img, d.img_len
 #define WIN d.head, d.head_len, d.tail, d.tail_len, d.blocks, d.b
 #define ROWS d.starts, d.starts_len, d.lengths, d.lengths_len
+#define TO (char *)d.out, d.out_len
 #define EXPORTS(ROW) \
     ROW(card_lay, YES, IMAGE | WRITES, card_lay(IMG, d.b, d.guid).number) \
     ROW(card_check, YES, IMAGE, card_check(IMG, d.b).number) \
@@ -690,7 +741,13 @@ static void draw_numbers(void) {
     ROW(gpt_mbr_read_bootcode, YES, IMAGE, gpt_mbr_read_bootcode(IMG).number) \
     ROW(gpt_mbr_write_bootcode, YES, IMAGE | WRITES, gpt_mbr_write_bootcode(IMG, d.bootcode).number) \
     ROW(gpt_mbr_read_disk_signature, YES, IMAGE, gpt_mbr_read_disk_signature(IMG).number) \
-    ROW(gpt_mbr_write_disk_signature, YES, IMAGE | WRITES, gpt_mbr_write_disk_signature(IMG, d.signature).number)
+    ROW(gpt_mbr_write_disk_signature, YES, IMAGE | WRITES, gpt_mbr_write_disk_signature(IMG, d.signature).number) \
+    ROW(card_version, NO, 0, card_version().major == 0 ? 0 : UINT64_MAX) \
+    ROW(card_message, YES, SHORT, card_message(TO, (uint32_t)below(45), (uint32_t)below(6), d.slot).number) \
+    ROW(gpt_guid_to_text, YES, SHORT, gpt_guid_to_text(TO, d.guid).number) \
+    ROW(gpt_guid_from_text, YES, GUID, gpt_guid_from_text(d.text, d.text_len).number) \
+    ROW(gpt_name_to_utf8, YES, SHORT | UNITS, gpt_name_to_utf8(TO, d.units, d.units_len).number) \
+    ROW(gpt_name_from_utf8, YES, UTF8, gpt_name_from_utf8(d.text, d.text_len).number)
 
 #define CALL(name, refuses, lends, number) static uint64_t call_##name(void) { return number; }
 EXPORTS(CALL)
