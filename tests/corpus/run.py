@@ -24,7 +24,7 @@ COLUMNS = "name size check reader first second repair screen list what".split()
 PLACES = {1: " front", 2: " back", 3: " disk GUID"}
 ROWS = bytes(136 * 300)
 RUNS = bytes(8 * 129)
-# Calls that only read, each with the arguments after the block size: the model's answer and the library's are compared whole, lent rows too.
+# Calls with their arguments after the block size: the model's answer and the library's are compared whole, with every lent byte.
 READ = {
     "card_check": (), "card_count_used": (), "card_next_used": (0,), "card_read_slot": (1,), "card_nth_used": (0,), "card_list": (ROWS,), "card_free_runs": (RUNS, RUNS), "card_map_make": (), "card_read_label": (1,),
     "card_payload_place": (1, 0, 13), "card_reader_copy": (), "card_reader_count": (), "card_reader_next": (0,), "card_reader_slot": (1,), "card_reader_list": (ROWS,), "card_start_repair": (), "card_start_clear": (1,),
@@ -138,6 +138,8 @@ def main():
                 print("\t".join([name, str(b), *said(model.CALLS, recipes.image_of(name), b).values(), "?"]))
         return 0
     rows = [row for row in index() if not sys.argv[1:] or row["name"] in sys.argv[1:]]
+    if not rows:
+        sys.exit("corpus: no image has such a name")
     judge, calls = Judge(), library.load(os.environ.get("CARD_LIBRARY") or ROOT / "target" / "lib" / "libcard.so")
     with tempfile.TemporaryDirectory() as folder:
         for row in rows:
@@ -146,7 +148,7 @@ def main():
             pathlib.Path(folder, row["name"] + ".img").write_bytes(image)
         there = readers.programs(judge, rows, folder, {row["name"]: listing(recipes.image_of(row["name"]), int(row["size"])) for row in rows})
     print("\n".join(judge.problems) or f"corpus: {len(rows)} images, {judge.compared} answers of the model, the library{''.join(', ' + name for name in there)}: as they must be")
-    return 1 if judge.problems or not rows else 0
+    return 1 if judge.problems else 0
 
 
 if __name__ == "__main__":

@@ -21,8 +21,11 @@ cp target/lib/libcard.a "$place/lib/"
 cp target/lib/libcard.so "$place/lib/libcard.so.0"
 ln -s libcard.so.0 "$place/lib/libcard.so"
 printf 'prefix=%s\nName: card\nDescription: GPT cards\nVersion: 0\nLibs: -L${prefix}/lib -lcard\nCflags: -I${prefix}/include\n' "$place" >"$place/lib/pkgconfig/card.pc"
-compiler=$(command -v "${CC:-cc}") || fail "there is no ${CC:-cc}"
-printf '#!/bin/sh\nexec "%s" -Wall -Wextra -pedantic -Werror %s "$@" %s\n' "$compiler" "${CFLAGS--O2}" "${LDFLAGS-}" >"$room/bin/cc"
+# shellcheck disable=SC2086
+set -- ${CC:-cc}
+compiler=$(command -v "$1") || fail "there is no $1"
+shift
+printf '#!/bin/sh\nexec "%s" %s -Wall -Wextra -pedantic -Werror %s "$@" %s\n' "$compiler" "$*" "${CFLAGS--O2}" "${LDFLAGS-}" >"$room/bin/cc"
 if ! command -v pkg-config >/dev/null 2>&1; then
     how="the flags that pkg-config would give"
     printf '#!/bin/sh\necho -I%s/include -L%s/lib -lcard\n' "$place" "$place" >"$room/bin/pkg-config"
