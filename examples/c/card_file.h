@@ -108,35 +108,33 @@ static inline uint64_t store_changed(const card_file *f, card_file *was, const c
     return block;
 }
 
-/* What a number means, and what to do next. */
-static const struct { uint32_t number; const char *what, *next; } words[] = {
-    {3, "the file has more bytes than 64 bits count", "take a smaller file"},
-    {4, "a header does not begin with EFI PART", "if there is a good copy, update repairs it; else look whether this is a card"},
-    {5, "a header's check sum does not match", "if there is a good copy, update repairs it; of another maker's card, card uefi shows the table"},
-    {6, "a table's check sum does not match its entries", "if there is a good copy, update repairs it"},
-    {8, "the file is shorter than three blocks", "take a longer file"},
-    {10, "there is no room between the two tables", "take a longer file, at least 34,816 bytes"},
-    {16, "a table is not as lay writes it, or an entry is wrong", "compare the file's length with the card's; of another maker's card, card uefi shows the table"},
-    {17, "the two tables differ", "update takes the one that readers show, and repairs the other"},
-    {18, "there is no such slot", "name a slot from 1 to 128"},
-    {20, "the last block comes before the first", "name the blocks the other way round"},
-    {21, "a block is not one of the usable ones", "list shows the free ranges"},
-    {22, "another slot has one of the blocks", "list shows the free ranges"},
-    {25, "another slot has this partition GUID", "run it again: the GUID is drawn anew"},
-    {27, "neither table can be read", "look whether this is a card of this length; of another maker's card, card uefi shows the table"},
+/* What to do next about a number; what it means is the library's to say. */
+static const struct { uint32_t number; const char *what; } next[] = {
+    {3, "take a smaller file"},
+    {4, "if there is a good copy, update repairs it; else look whether this is a card"},
+    {5, "if there is a good copy, update repairs it; of another maker's card, card uefi shows the table"},
+    {6, "if there is a good copy, update repairs it"},
+    {8, "take a longer file"},
+    {10, "take a longer file, at least 34,816 bytes"},
+    {16, "compare the file's length with the card's; of another maker's card, card uefi shows the table"},
+    {17, "update takes the table that readers show, and repairs the other"},
+    {18, "name a slot from 1 to 128"},
+    {20, "name the blocks the other way round"},
+    {21, "list shows the free ranges"},
+    {22, "list shows the free ranges"},
+    {25, "run it again: the GUID is drawn anew"},
+    {27, "look whether this is a card of this length; of another maker's card, card uefi shows the table"},
 };
 
-/* Says what was refused, what is left, and what to do. slot is the answer's, or else differs; place is the check's. */
+/* Says what was refused, what is left, and what to do. slot is the answer's, or differs where the place is a slot. */
 static inline int refuse(const card_file *f, const char *what, const char *left, uint32_t number, uint32_t slot, uint32_t place) {
-    const char *means = "a number that this example does not expect", *next = "look the number up in card.h";
-    for (size_t k = 0; k < sizeof words / sizeof *words; k++) {
-        if (words[k].number == number) means = words[k].what, next = words[k].next;
+    char words[CARD_MESSAGE_SIZE];
+    const char *then = "look the number up in card.h";
+    for (size_t k = 0; k < sizeof next / sizeof *next; k++) {
+        if (next[k].number == number) then = next[k].what;
     }
-    fprintf(stderr, "%s: %s: refused %" PRIu32 ", %s", f->path, what, number, means);
-    if (place == CARD_PLACE_FRONT || place == CARD_PLACE_BACK) fprintf(stderr, " (the %s table)", place == CARD_PLACE_FRONT ? "front" : "back");
-    if (place == CARD_PLACE_DISK_GUID) fprintf(stderr, " (in the disk GUID)");
-    if (slot) fprintf(stderr, " (slot %" PRIu32 ")", slot);
-    fprintf(stderr, ". %s Next: %s.\n", left, next);
+    card_message(words, sizeof words, number, place, slot);
+    fprintf(stderr, "%s: %s: %s. %s Next: %s.\n", f->path, what, words, left, then);
     return REFUSED;
 }
 
@@ -149,17 +147,23 @@ static inline gpt_guid drawn_guid(const card_file *f) {
     return guid;
 }
 
-/* Whether a name has at most 36 letters, all of ASCII. */
-static inline bool name_fits(const char *name) {
-    size_t n = 0;
-    while ((unsigned char)name[n] >= 0x20 && (unsigned char)name[n] < 0x7F) n++;
-    return name[n] == '\0' && n <= 36;
+/* The name of a command's word; the program ends with the reason where it is none. */
+static inline gpt_name_of_text name_in(const char *word) {
+    gpt_name_of_text name = gpt_name_from_utf8(word, strlen(word));
+    if (name.number != 0) {
+        char words[CARD_MESSAGE_SIZE];
+        card_message(words, sizeof words, name.number, 0, 0);
+        fprintf(stderr, "the name is not taken: %s, from byte %zu on. Nothing was changed. Next: give a shorter one, in UTF-8.\n", words, name.at);
+        exit(FAILED);
+    }
+    return name;
 }
 
-/* A record of the type "basic data", with a name that fits. */
-static inline gpt_partition record(uint64_t first, uint64_t last, gpt_guid guid, const char *name) {
-    gpt_partition p = {.part_type_guid = {0xEBD0A0A2, 0xB9E5, 0x4433, {0x87, 0xC0, 0x68, 0xB6, 0xB7, 0x26, 0x99, 0xC7}}, .part_guid = guid, .first_lba = first, .last_lba = last};
-    for (int i = 0; i < 36 && name[i]; i++) p.name[i] = (unsigned char)name[i];
+/* A record of the type "basic data". */
+static inline gpt_partition record(uint64_t first, uint64_t last, gpt_guid guid, gpt_name_of_text name) {
+    gpt_partition p = {.part_guid = guid, .first_lba = first, .last_lba = last};
+    p.part_type_guid = gpt_guid_from_text("ebd0a0a2-b9e5-4433-87c0-68b6b72699c7", 36).guid;
+    memcpy(p.name, name.name, sizeof p.name);
     return p;
 }
 #endif

@@ -39,7 +39,7 @@ static void store(const card_file *laid, card_file *was) {
 }
 
 /* The card in memory: what is refused here changes nothing. */
-static card_answer plan(card_file *laid, uint64_t bytes, const char *name) {
+static card_answer plan(card_file *laid, uint64_t bytes, gpt_name_of_text name) {
     laid->b = 512, laid->blocks = bytes / 512, laid->head_len = 1024 + ARRAY, laid->tail_len = 512 + ARRAY;
     card_answer answer = card_window_lay(WINDOWS(laid), drawn_guid(laid));
     if (answer.number != 0) return answer;
@@ -49,13 +49,13 @@ static card_answer plan(card_file *laid, uint64_t bytes, const char *name) {
 
 int main(int n, char **word) {
     static card_file f, laid, was;
-    if (n != 4 || !name_fits(word[3])) {
-        fprintf(stderr, "usage: %s, with a name of at most 36 letters of ASCII\n", usage);
+    if (n != 4) {
+        fprintf(stderr, "usage: %s\n", usage);
         return FAILED;
     }
     uint64_t bytes = number_in(word[2], usage);
     laid.path = word[1];
-    card_answer answer = plan(&laid, bytes, word[3]);
+    card_answer answer = plan(&laid, bytes, name_in(word[3]));
     if (answer.number != 0) return refuse(&laid, "not laid", unchanged, answer.number, answer.slot, answer.place);
     open_card(&f, word[1], O_RDWR | O_CREAT);
     if (look(&f, bytes) != DONE) return REFUSED;

@@ -4,27 +4,20 @@
    Usage: list FILE. Exit status 0 for a whole card, 1 where the check refuses, 2 not understood, or reading failed. */
 #include "card_file.h"
 
-/* A GUID in its usual form, the first three fields as numbers. */
 static void print_guid(gpt_guid guid) {
-    printf("%08" PRIx32 "-%04" PRIx16 "-%04" PRIx16 "-", guid.time_low, guid.time_mid, guid.time_high);
-    for (int i = 0; i < 8; i++) printf(i == 2 ? "-%02x" : "%02x", guid.tail[i]);
+    char text[GPT_GUID_TEXT_SIZE];
+    gpt_guid_to_text(text, sizeof text, guid);
+    printf("%s", text);
 }
 
-static void print_utf8(uint32_t c) {
-    if (c < 0x80) printf("%c", (int)c);
-    else if (c < 0x800) printf("%c%c", (int)(0xC0 | c >> 6), (int)(0x80 | (c & 63)));
-    else if (c < 0x10000) printf("%c%c%c", (int)(0xE0 | c >> 12), (int)(0x80 | (c >> 6 & 63)), (int)(0x80 | (c & 63)));
-    else printf("%c%c%c%c", (int)(0xF0 | c >> 18), (int)(0x80 | (c >> 12 & 63)), (int)(0x80 | (c >> 6 & 63)), (int)(0x80 | (c & 63)));
-}
-
-/* A name as UTF-8, up to its first zero; half of a pair and control characters as a question mark, so that a terminal shows the card and does not obey it. */
+/* A name as UTF-8, with a question mark for a control character, so that a terminal shows the card and does not obey it. Those from U+0080 to U+009F have the bytes C2 and 80 to 9F. */
 static void print_name(const uint16_t *name) {
-    for (int i = 0; i < 36 && name[i] != 0; i++) {
-        uint32_t c = name[i];
-        bool pair = c >= 0xD800 && c < 0xDC00 && i < 35 && name[i + 1] >= 0xDC00 && name[i + 1] < 0xE000;
-        if (pair) c = 0x10000 + ((c & 0x3FF) << 10) + (name[++i] & 0x3FF);
-        bool odd = c < 0x20 || (c >= 0x7F && c < 0xA0) || (c >= 0xD800 && c < 0xE000);
-        print_utf8(odd ? '?' : c);
+    char text[GPT_NAME_TEXT_SIZE];
+    gpt_name_to_utf8(text, sizeof text, name, 36);
+    for (const unsigned char *c = (const unsigned char *)text; *c; c++) {
+        bool long_control = *c == 0xC2 && c[1] < 0xA0;
+        printf("%c", *c < 0x20 || *c == 0x7F || long_control ? '?' : *c);
+        c += long_control;
     }
 }
 

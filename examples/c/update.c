@@ -48,12 +48,13 @@ static int put(card_file *f, card_file *was, uint32_t slot, gpt_partition partit
 
 int main(int n, char **word) {
     static card_file f, was;
-    if (n < 6 || n > 7 || !name_fits(word[5])) {
-        fprintf(stderr, "usage: %s, with a name of at most 36 letters of ASCII\n", usage);
+    if (n < 6 || n > 7) {
+        fprintf(stderr, "usage: %s\n", usage);
         return FAILED;
     }
     uint64_t slot = number_in(word[2], usage), first = number_in(word[3], usage), last = number_in(word[4], usage), stages = n > 6 ? number_in(word[6], usage) : 4;
     if (slot > 128) slot = 0; /* no slot either way: the library refuses it by 18 */
+    gpt_name_of_text name = name_in(word[5]);
     open_card(&f, word[1], O_RDWR);
     card_copy copy = find_card(&f);
     if (copy.number != 0) return refuse(&f, "not put", unchanged, copy.number, 0, 0);
@@ -68,5 +69,5 @@ int main(int n, char **word) {
     /* A partition that is there keeps its GUID. */
     card_slot_read before = card_window_read_slot(WINDOWS(&f), (uint32_t)slot);
     gpt_guid guid = before.number == 0 && before.present ? before.partition.part_guid : drawn_guid(&f);
-    return put(&f, &was, (uint32_t)slot, record(first, last, guid, word[5]), stages);
+    return put(&f, &was, (uint32_t)slot, record(first, last, guid, name), stages);
 }

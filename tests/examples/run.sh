@@ -87,7 +87,7 @@ damaged() {
     says 1 "$one
 $two
 used 2 of 128; 131072 blocks of 512 bytes; the back table
-damaged.img: listed, but not whole: refused 4, a header does not begin with EFI PART (the front table). Nothing was changed. Next: if there is a good copy, update repairs it; else look whether this is a card." ./list damaged.img
+damaged.img: listed, but not whole: refused 4, InvalidGptSignature: the front table's header does not begin with EFI PART. Nothing was changed. Next: if there is a good copy, update repairs it; else look whether this is a card." ./list damaged.img
     says 0 "damaged.img: the check refuses 4; readers take the back table
 damaged.img: repaired: the front table now says what the other one says" ./update damaged.img 2 34 2047 "south slope" 0
     tried=$((tried + 1))
@@ -96,7 +96,7 @@ damaged.img: repaired: the front table now says what the other one says" ./updat
     dd if=/dev/zero of=damaged.img bs=512 seek=131071 count=1 conv=notrunc 2>/dev/null
     for program in list update; do
         what=$([ $program = list ] && echo "not listed" || echo "not put")
-        says 1 "damaged.img: $what: refused 27, neither table can be read. Nothing was changed. Next: look whether this is a card of this length; of another maker's card, card uefi shows the table." \
+        says 1 "damaged.img: $what: refused 27, NoGoodCopy: neither table of the card can be read. Nothing was changed. Next: look whether this is a card of this length; of another maker's card, card uefi shows the table." \
             ./$program damaged.img $([ $program = list ] || echo 2 34 2047 south)
     done
 }
@@ -106,21 +106,23 @@ longer() {
     ./lay longer.img 134217728 "last year" >/dev/null || fail "a longer card is not laid"
     dd if=field.img of=longer.img conv=notrunc 2>/dev/null
     cp longer.img before.img
-    says 1 "longer.img: not repaired and not put: refused 16, a table is not as lay writes it, or an entry is wrong (the front table). Nothing was changed. Next: compare the file's length with the card's; of another maker's card, card uefi shows the table." \
+    says 1 "longer.img: not repaired and not put: refused 16, WrongLayout: the front table is not laid out as a card's. Nothing was changed. Next: compare the file's length with the card's; of another maker's card, card uefi shows the table." \
         ./update longer.img 2 34 2047 south
     cmp longer.img before.img || fail "a refused update changed a byte"
 }
 
 refusals() {
     cp field.img before.img
-    says 1 "field.img: not put: refused 22, another slot has one of the blocks (slot 1). Nothing was changed. Next: list shows the free ranges." ./update field.img 3 2047 2048 west
-    says 1 "field.img: not put: refused 18, there is no such slot. Nothing was changed. Next: name a slot from 1 to 128." ./update field.img 4294967297 34 34 west
+    says 1 "field.img: not put: refused 22, Overlap: a block that another slot has (slot 1). Nothing was changed. Next: list shows the free ranges." ./update field.img 3 2047 2048 west
+    says 1 "field.img: not put: refused 18, BadSlot: there is no such slot or record. Nothing was changed. Next: name a slot from 1 to 128." ./update field.img 4294967297 34 34 west
     says 1 "field.img: has a card with 2 used slots, which a lay would drop. Nothing was changed. Next: move the file away." ./lay field.img 67108864 west
     says 1 "field.img: is there, with 67108864 bytes and not 67108865. Nothing was changed. Next: name its own length, or another file." ./lay field.img 67108865 west
-    says 1 "small.img: not laid: refused 10, there is no room between the two tables. Nothing was changed. Next: take a longer file, at least 34,816 bytes." ./lay small.img 34815 west
+    says 1 "small.img: not laid: refused 10, BackupLbaToEarly: there is no room between the two tables. Nothing was changed. Next: take a longer file, at least 34,816 bytes." ./lay small.img 34815 west
     [ ! -e small.img ] || fail "a refused lay makes a file"
     says 2 "none.img: cannot be opened: No such file or directory. Nothing was changed. Next: look at the name, and at who may open it." ./list none.img
-    says 2 "usage: update FILE SLOT FIRST LAST NAME [STAGES], with a name of at most 36 letters of ASCII" ./update field.img 3 34 34 höhen
+    says 2 "the name is not taken: refused 40, LongName: the name has more than 36 UTF-16 units, from byte 36 on. Nothing was changed. Next: give a shorter one, in UTF-8." ./update field.img 3 34 34 0123456789012345678901234567890123456
+    says 2 "the name is not taken: refused 39, BadText: the text is no GUID, or no UTF-8, or has a zero in it, from byte 1 on. Nothing was changed. Next: give a shorter one, in UTF-8." ./update field.img 3 34 34 "$(printf 'h\366hen')"
+    says 2 "usage: update FILE SLOT FIRST LAST NAME [STAGES]" ./update field.img 3 34 34
     says 2 "x is no number. Usage: update FILE SLOT FIRST LAST NAME [STAGES]" ./update field.img x 34 34 west
     says 2 "usage: list FILE" ./list
     cmp field.img before.img || fail "a refused command changed a byte"
@@ -132,7 +134,9 @@ others() {
     says 0 "$one of 2026-05-01, style 3, sheet 12
 $two
 used 2 of 128; 131072 blocks of 512 bytes; whole" ./list field.img
-    says 0 "small.img: laid: 68 blocks of 512 bytes; slot 1 has blocks 34 to 34" ./lay small.img 34816 map
+    says 0 "small.img: laid: 68 blocks of 512 bytes; slot 1 has blocks 34 to 34" ./lay small.img 34816 "$(printf 'Höhe 🔥 \302\205')"
+    says 0 "slot 1: 34 to 34, type $data, GUID .., \"Höhe 🔥 ?\"
+used 1 of 128; 68 blocks of 512 bytes; whole" ./list small.img
     rm small.img
     if command -v sfdisk >/dev/null 2>&1; then
         says 0 "field.img1 : start=        2048, size=      128991, type=EBD0A0A2-B9E5-4433-87C0-68B6B72699C7, name=\"north ridge\"
