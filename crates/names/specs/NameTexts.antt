@@ -31,7 +31,7 @@ nameFrom (suc k) text at us =
 unfoldable pub nameOfText : List ℕ → NameOfText
 nameOfText text = nameFrom (length text) text 0 []
 
--- the unit at a place of a name: zero where there is none, and from the 36th on
+-- the unit at a place of a name: zero where there is none, and from place 36 on
 unfoldable pub unitAt : List ℕ → ℕ → ℕ
 unitAt name i = pick (leb 36 i) 0 (getD name i 0)
 

@@ -13,7 +13,7 @@ pub struct Scalar {
     pub code: u32,
 }
 
-// A text of at most 108 bytes: the first `count` of its words.
+// A text of at most 108 bytes: the first `count` of these.
 pub struct Words {
     pub count: usize,
     pub words: [u8; 108],
@@ -187,7 +187,7 @@ pub fn refused(number: u32, at: usize) -> NameOfText
     }
 }
 
-// The unit at place i of a name; zero where it has none, and from the 36th on.
+// The unit at place i of a name; zero where it has none, and from place 36 on.
 pub fn unit_at(name: &[u16], i: usize) -> u16
     ensures { λ r. ⌜ r ≡ unitAt (now (name .entry)) i ⌝ }
 {

@@ -11,7 +11,7 @@ none-requires : tie.Need-none-requires
 none-requires c κs = search needs
 
 returns : tie.Need-returns
-returns c = search three-second
+returns c = three-second _ _ _ (c .before .before .is-between .ensures) (c .before .if1 .taken) (c .none .ensures)
 
 is-between-requires-2 : tie.Need-is-between-requires-2
 is-between-requires-2 c κs = search needs
@@ -20,7 +20,9 @@ none-requires-2 : tie.Need-none-requires-2
 none-requires-2 c κs = search needs
 
 returns-2 : tie.Need-returns-2
-returns-2 c = search three-third
+returns-2 c =
+    let d = c .before .before .before in
+    three-third _ _ _ (d .before .is-between .ensures) (d .if1 .left) (c .before .before .is-between2 .ensures) (c .before .if2 .taken) (c .none2 .ensures)
 
 mul-in-range : tie.Need-mul-in-range
 mul-in-range c = search needs
@@ -38,7 +40,9 @@ in-range-requires : tie.Need-in-range-requires
 in-range-requires c κs = search needs
 
 returns-3 : tie.Need-returns-3
-returns-3 c = search three-whole
+returns-3 c =
+    let d = c .before .before .before in
+    three-whole _ _ _ (d .before .is-between .ensures) (d .if1 .left) (c .before .before .is-between2 .ensures) (c .before .if2 .left) (c .in-range .ensures)
 
 pub of-three-spec : {M : Type 1} → statement M
 of-three-spec =

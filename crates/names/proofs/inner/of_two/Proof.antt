@@ -11,7 +11,7 @@ none-requires : tie.Need-none-requires
 none-requires c κs = search needs
 
 returns : tie.Need-returns
-returns c = search two-broken
+returns c = two-broken _ _ (c .before .before .is-between .ensures) (c .before .if1 .taken) (c .none .ensures)
 
 mul-in-range : tie.Need-mul-in-range
 mul-in-range c = search needs
@@ -23,7 +23,7 @@ in-range-requires : tie.Need-in-range-requires
 in-range-requires c κs = search needs
 
 returns-2 : tie.Need-returns-2
-returns-2 c = search two-whole
+returns-2 c = two-whole _ _ (c .before .before .is-between .ensures) (c .before .if1 .left) (c .in-range .ensures)
 
 pub of-two-spec : {M : Type 1} → statement M
 of-two-spec =

@@ -8,7 +8,7 @@ is-between-requires : tie.Need-is-between-requires
 is-between-requires c κs = search needs
 
 returns : tie.Need-returns
-returns c = search point-plain
+returns c = point-plain _ _ (c .before .is-between .ensures) (c .if1 .taken)
 
 is-between-requires-2 : tie.Need-is-between-requires-2
 is-between-requires-2 c κs = search needs
@@ -17,7 +17,9 @@ replaced-requires : tie.Need-replaced-requires
 replaced-requires c κs = search needs
 
 returns-2 : tie.Need-returns-2
-returns-2 c = search point-low
+returns-2 c =
+    let s = c .before .before .before in
+    point-low _ _ (s .before .is-between .ensures) (s .if1 .left) (c .before .before .is-between2 .ensures) (c .before .if2 .taken) (c .replaced .ensures)
 
 is-between-requires-3 : tie.Need-is-between-requires-3
 is-between-requires-3 c κs = search needs
@@ -26,7 +28,11 @@ replaced-requires-2 : tie.Need-replaced-requires-2
 replaced-requires-2 c κs = search needs
 
 returns-3 : tie.Need-returns-3
-returns-3 c = search point-high
+returns-3 c =
+    let h = c .before .before .before in
+    let s = h .before .before in
+    point-high _ _ (s .before .is-between .ensures) (s .if1 .left) (h .before .is-between2 .ensures) (h .if2 .left) (c .before .before .is-between3 .ensures) (c .before .if3 .taken)
+    (c .replaced2 .ensures)
 
 mul-t8 : tie.Need-mul-t8
 mul-t8 c = search needs

@@ -64,7 +64,8 @@ returns-4 c =
     let s = n .before .before .before in
     let a = s .args in
     found (a .text .now) (a .at) (s .pre)
-    (at-two (a .text .now) (a .at) _ (n .size-of .ensures) (t .before .before .before .if1 .left) (room (s .pre) (t .before .before .if2 .left)) (t .before .if3 .left) (t .if4 .taken) (c .of-two .ensures))
+    (at-two (a .text .now) (a .at) _ (n .size-of .ensures)
+    (t .before .before .before .if1 .left) (room (s .pre) (t .before .before .if2 .left)) (t .before .if3 .left) (t .if4 .taken) (c .of-two .ensures))
 
 add-of-three : tie.Need-add-of-three
 add-of-three c = search needs
