@@ -20,7 +20,11 @@ fn has_reached(p: u32, n: u32) -> usize
 fn digit_count(n: u32) -> usize
     ensures { λ r. ⌜ (r ≡ digitCount n) × (r ≤ 10) ⌝ }
 {
-    let few = 1 + has_reached(10, n) + has_reached(100, n) + has_reached(1000, n) + has_reached(10000, n);
+    let few = 1
+        + has_reached(10, n)
+        + has_reached(100, n)
+        + has_reached(1000, n)
+        + has_reached(10000, n);
     let more = few + has_reached(100000, n) + has_reached(1000000, n) + has_reached(10000000, n);
     more + has_reached(100000000, n) + has_reached(1000000000, n)
 }

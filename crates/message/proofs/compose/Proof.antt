@@ -18,7 +18,7 @@ put-slot-requires c κs = search needs
 
 returns : tie.Need-returns
 unfolding messageText
-returns c = 
+returns c =
     let a = c .before .before .before .before .before .args in
     let p = c .before .before .put-line in
     let m = composed (a .out .now) (c .before .before .before .before .line-for .result) (a .slot) (p .ensures .0) (p .ensures .2) (c .put-slot .ensures .0) (c .put-slot .ensures .2) in

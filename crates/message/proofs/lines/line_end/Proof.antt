@@ -24,7 +24,7 @@ shared-slice-read-if1 : tie.Need-shared-slice-read-if1 Inv-loop μ-loop
 shared-slice-read-if1 c = search needs
 
 returns : tie.Need-returns Inv-loop μ-loop
-returns c = 
+returns c =
     let a = c .before .before .before .before .args in
     let l = c .before .before .before .loop in
     (omega arith, omega arith, line-stop (a .table .now) (a .start) (l .at) (omega arith) (c .if1 .taken) ∙ l .inv .2)
@@ -36,13 +36,13 @@ loop-less : tie.Need-loop-less Inv-loop μ-loop
 loop-less c = omega arith
 
 loop-again : tie.Need-loop-again Inv-loop μ-loop
-loop-again c = 
+loop-again c =
     let a = c .before .before .before .before .args in
     let l = c .before .before .before .loop in
     (omega arith, omega arith, line-step (a .table .now) (a .start) (l .at) (omega arith) (omega arith) (c .if1 .left) ∙ l .inv .2)
 
 returns-2 : tie.Need-returns-2 Inv-loop μ-loop
-returns-2 c = 
+returns-2 c =
     let a = c .before .before .args in
     let l = c .before .loop in
     (omega arith, omega arith, line-end (a .table .now) (a .start) (l .at) (omega arith) ∙ l .inv .2)

@@ -19,7 +19,7 @@ loop-holds : tie.Need-loop-holds Inv-loop μ-loop
 loop-holds c = (omega arith, refl)
 
 returns : tie.Need-returns Inv-loop μ-loop
-returns c = 
+returns c =
     let l = c .before .before .loop in
     (omega arith, rw (c .if1 .taken, behind-none (drop (l .at) (c .before .before .before .before .args .table .now))) at (l .inv .1))
 
@@ -36,13 +36,13 @@ loop-less : tie.Need-loop-less Inv-loop μ-loop
 loop-less c = omega arith
 
 loop-again : tie.Need-loop-again Inv-loop μ-loop
-loop-again c = 
+loop-again c =
     let a = c .before .before .before .before .before .before .args in
     let l = c .before .before .before .before .loop in
     (omega arith, rw (c .left-behind .ensures) (behind-step (a .table .now) (l .at) (l .left) (omega arith) (omega arith)) ∙ l .inv .1)
 
 returns-2 : tie.Need-returns-2 Inv-loop μ-loop
-returns-2 c = 
+returns-2 c =
     let l = c .before .loop in
     (omega arith, behind-end (c .before .before .before .args .table .now) (l .at) (l .left) (omega arith) ∙ l .inv .1)
 

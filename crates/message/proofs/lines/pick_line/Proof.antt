@@ -23,7 +23,7 @@ part-line-end : tie.Need-part-line-end
 part-line-end c = search needs
 
 put-bytes-requires : tie.Need-put-bytes-requires
-put-bytes-requires c κs = 
+put-bytes-requires c κs =
     let a = c .before .before .before .before .before .args in
     let s = c .before .before .before .line-start in
     let e = line-found (a .table .now) (a .k) (s .result) (c .before .before .line-end .result) (s .ensures .1) (c .before .before .line-end .ensures .2) in
@@ -31,7 +31,7 @@ put-bytes-requires c κs =
     omega (arith, l, ap length e)
 
 returns : tie.Need-returns
-returns c = 
+returns c =
     let a = c .before .before .before .before .before .before .args in
     let s = c .before .before .before .before .line-start in
     let e = line-found (a .table .now) (a .k) (s .result) (c .before .before .before .line-end .result) (s .ensures .1) (c .before .before .before .line-end .ensures .2) in

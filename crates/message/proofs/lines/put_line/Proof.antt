@@ -15,7 +15,7 @@ first-line-requires c κs = search needs
 
 returns : tie.Need-returns
 unfolding textAt
-returns c = 
+returns c =
     let k = c .before .before .before .args .line in
     let n = line-short firstTexts k first-good (first-long (omega arith)) in
     rw (lt-ltb _ _ (c .before .before .if1 .taken)) (c .first-line .ensures .0, omega (arith, n), c .first-line .ensures .1)
@@ -25,7 +25,7 @@ later-line-requires c κs = search needs
 
 returns-2 : tie.Need-returns-2
 unfolding textAt
-returns-2 c = 
+returns-2 c =
     let k = c .before .before .before .before .args .line in
     let n = line-short laterTexts (k - 21) later-good (later-long (omega arith)) in
     rw (le-ltb _ _ (c .before .before .before .if1 .left), lt-ltb _ _ (c .before .before .if2 .taken)) (c .later-line .ensures .0, omega (arith, n), c .later-line .ensures .1)
@@ -35,7 +35,7 @@ placed-line-requires c κs = search needs
 
 returns-3 : tie.Need-returns-3
 unfolding textAt
-returns-3 c = 
+returns-3 c =
     let k = c .before .before .before .before .args .line in
     let n = line-short placedTexts (k - 42) placed-good (placed-long (omega arith)) in
     rw (le-ltb _ _ (c .before .before .before .if1 .left), le-ltb _ _ (c .before .before .if2 .left)) (c .placed-line .ensures .0, omega (arith, n), c .placed-line .ensures .1)

@@ -18,7 +18,7 @@ add-result c = search needs
 
 returns : tie.Need-returns
 unfolding decimal
-returns c = 
+returns c =
     let a = c .before .before .before .args in
     let e = c .before .before .digit-count .ensures .0 in (
       rw (length-digits 10 (digitCount (a .n)) (a .n)) (omega (arith, e)),
