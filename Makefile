@@ -6,6 +6,8 @@ CFLAGS ?= -O2
 LDFLAGS ?=
 # The log that make gate-times reads.
 LOG ?= target/gate.log
+# The crates whose exports make up the library for C.
+EXPORTS = gpt_c card_c text_c
 # The scripts take these from the environment.
 export CC CFLAGS LDFLAGS PREFIX DESTDIR
 
@@ -60,13 +62,12 @@ programs:
 lib: target/lib/libcard.so.0
 	@echo "target/lib/libcard.a and target/lib/libcard.so; the header is include/card.h"
 
-# The text calls are a crate and an archive of their own, so that neither takes long to prove; both archives' objects go into one.
+# The ported calls, the card calls and the text calls are each a crate and an archive of their own, so that none takes long to prove; the objects of all three go into one archive.
 target/lib/libcard.a: crates.txt $(shell find crates -name '*.rt' -o -name '*.antt')
-	@scripts/prove --staticlib card_c
-	@scripts/prove --staticlib text_c
+	@for crate in $(EXPORTS); do scripts/prove --staticlib $$crate || exit 1; done
 	@mkdir -p target/lib
 	@rm -rf target/lib/objects && mkdir target/lib/objects && rm -f target/lib/libcard.a
-	@cd target/lib/objects && $(AR) x ../../staticlib/libcard_c.a && $(AR) x ../../staticlib/libtext_c.a
+	@cd target/lib/objects && for crate in $(EXPORTS); do $(AR) x ../../staticlib/lib$$crate.a || exit 1; done
 	$(AR) rcs target/lib/libcard.a target/lib/objects/*.o
 	@rm -r target/lib/objects
 

@@ -1,4 +1,4 @@
-// The library's text calls for C and for whatever links as C does, in an archive of their own beside card_c: include/card.h has their prototypes.
+// The library's text calls for C and for whatever links as C does, in an archive of their own beside gpt_c and card_c: include/card.h has their prototypes.
 use guid_text::GuidOfText;
 use names::NameOfText;
 use units::Guid;
