@@ -796,7 +796,8 @@ class Refusals(unittest.TestCase):
                 self.assertEqual((failure.number, failure.slot), (number, slot))
 
     def test_the_words_are_those_of_the_header(self):
-        header = (ROOT / "include" / "card.h").read_text()
+        # The enum behind it has the two numbers of the text calls, which this package does not make.
+        header = (ROOT / "include" / "card.h").read_text().split("enum card_text_number")[0]
         stated = re.findall(r"^    CARD_(\w+) = (\d+),? +/\* (.*?)(?:; .*)? \*/$", header, re.M)
         self.assertEqual([int(number) for _, number, _ in stated], [0, *card.NUMBERS])
         for name, number, meaning in stated[1:]:

@@ -124,7 +124,7 @@ from dataclasses import replace
 
 from ._buffers import Buffer, WritableBuffer
 from ._files import Card
-from ._image import (FRESH, check, clear, clear_mapped, count, crc32_next, disk_guid, free_runs, get, judge, lay, listing, payload_place, put, put_lowest, put_mapped, read_label,
+from ._image import (FRESH, check, clear, clear_mapped, count, crc32_next, disk_guid, free_runs, get, judge, lay, library_version, listing, payload_place, put, put_lowest, put_mapped, read_label,
                      read_payload, slot_map, uefi_header, uefi_listing, write_label, write_payload)
 from ._records import BASIC_DATA, RUNS, Dated, Entry, Flags, Header, Label, Record, Repair, SlotMap, Update
 from ._refusals import BACK, DISK_GUID, FRONT, NOWHERE, NUMBERS, SLOT, Refused
@@ -133,7 +133,7 @@ from ._stages import clear_staged, next_repair, next_stage, put_staged, reader_c
 __version__ = "0.1.0"
 __all__ = [
     "BACK", "BASIC_DATA", "Buffer", "Card", "DISK_GUID", "Dated", "Entry", "FRESH", "FRONT", "Flags", "Header", "Label", "NOWHERE", "NUMBERS", "RUNS", "Record", "Refused", "Repair", "SLOT",
-    "SlotMap", "Update", "WritableBuffer", "check", "clear", "clear_mapped", "clear_staged", "count", "crc32_next", "disk_guid", "free_runs", "get", "judge", "lay", "listing", "next_repair",
+    "SlotMap", "Update", "WritableBuffer", "check", "clear", "clear_mapped", "clear_staged", "count", "crc32_next", "disk_guid", "free_runs", "get", "judge", "lay", "library_version", "listing", "next_repair",
     "next_stage", "payload_place", "put", "put_lowest", "put_mapped", "put_staged", "read_label", "read_payload", "reader_copy", "reader_get", "reader_listing", "repair_staged", "replace",
     "slot_map", "start_clear", "start_put", "start_repair", "uefi_header", "uefi_listing", "write_label", "write_payload",
 ]

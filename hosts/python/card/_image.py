@@ -175,3 +175,13 @@ def crc32_next(running: int, data: Buffer) -> int:
     running = number(running, 32, "the running sum")
     with lent(data, "the bytes to sum") as at:
         return c.gpt_crc32_next(running, *at)
+
+
+def library_version() -> tuple[int, int, int]:
+    """The version of the library that was loaded: major, minor and patch. The package's own is __version__.
+
+    >>> ".".join(map(str, library_version())) == __version__
+    True
+    """
+    version = c.card_version()
+    return version.major, version.minor, version.patch

@@ -93,6 +93,7 @@ card_start_repair = _call("card_start_repair", structs.RepairStep, *_image)
 card_next_repair = _call("card_next_repair", structs.RepairStep, *_image, c_uint32, structs.Repair)
 gpt_flags_of = _call("gpt_flags_of", structs.Flags, c_uint64)
 gpt_flags_bits = _call("gpt_flags_bits", structs.Bits, structs.Flags)
+card_version = _call("card_version", structs.Version)
 gpt_crc32_next = _plain("gpt_crc32_next", c_uint32, *_slice)
 
 # The reading edition by UEFI has a call for each table.

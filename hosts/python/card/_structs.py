@@ -236,6 +236,13 @@ class Row(ctypes.Structure):
     _fields_ = [("slot", c_uint64), ("entry", Entry)]
 
 
+class Version(ctypes.Structure):
+    major: int
+    minor: int
+    patch: int
+    _fields_ = [("major", c_uint32), ("minor", c_uint32), ("patch", c_uint32)]
+
+
 class Held(ctypes.Structure):
     """The interpreter's own description of a buffer, Py_buffer."""
 
@@ -247,7 +254,7 @@ class Held(ctypes.Structure):
 _SIZES = (
     (Flags, 16), (Bits, 16), (Record, 136), (Entry, 128), (Guid, 16), (Answer, 16), (Stored, 24), (Count, 16), (Next, 8), (Row, 136), (Map, 16), (Made, 32), (Carried, 32), (Label, 8),
     (LabelRead, 20), (Judged, 24), (Copy, 8), (ReaderCount, 8), (SlotRead, 152), (ReaderSlot, 144), (Spot, 24), (Header, 88), (HeaderRead, 96), (Update, 176), (UpdateStep, 192), (Repair, 48),
-    (RepairStep, 64), (Held, 80),
+    (RepairStep, 64), (Version, 12), (Held, 80),
 )
 
 for _struct, _size in _SIZES:
