@@ -158,10 +158,10 @@ def python_name(text):
 
 
 def edge_cases(calls):
-    """Every first byte before each byte at an edge of a range, and what follows it, by Python's codec."""
+    """Every first byte of two or more before each byte at an edge of a range, the others before a tail byte, and what follows them, by Python's codec."""
     for first in range(256):
-        for second in (0x00, 0x41, 0x7F, 0x80, 0x8F, 0x90, 0x9F, 0xA0, 0xBF, 0xC0):
-            for rest in (b"", b"\x80", b"\xbf\xbf"):
+        for second in (0x00, 0x41, 0x7F, 0x80, 0x8F, 0x90, 0x9F, 0xA0, 0xBF, 0xC0) if first >= 0xC0 else (0x80,):
+            for rest in (b"", b"\x80", b"\xbf\xbf") if first >= 0xC0 else (b"",):
                 text = bytes([first, second]) + rest
                 yield f"Python's opinion of {text.hex()}", calls["gpt_name_from_utf8"](text)[:2], python_name(text)
 

@@ -5,7 +5,7 @@ import struct
 import model
 import words
 from draws import EDGES
-from utf import RANGES, utf8
+from utf import FORMS, LEFT_OUT, RANGES, utf8
 
 GUID_TEXT = 36
 # The bytes beside those that a GUID's text may have, and what other forms of it have.
@@ -33,7 +33,7 @@ def message_call(draw, b):
     """A number, a place and a slot, mostly of a refusal that names one."""
     number = draw.pick((*range(46), *words.OF_TABLE, *words.OF_TABLE, 17, 17, 17, *words.OF_SLOT, *NUMBERS, draw.number(32)))
     place = draw.pick((0, 0, 1, 2, 3, 4, *PLACES, draw.number(32)))
-    slot = draw.pick((*SLOTS, 1 + draw.below(128), draw.number(32, EDGES)))
+    slot = draw.pick((0, 0, 0, 0, *SLOTS, 1 + draw.below(128), draw.number(32, EDGES)))
     return room(draw, "card_message", number, place, slot), number, place, slot
 
 
@@ -120,10 +120,19 @@ def long_form(point, size):
     return bytes([0xFF << 8 - size & 0xFF | point >> 6 * (size - 1) & 0x7F >> size, *tail])
 
 
+def left_out(draw, first):
+    """A first byte with a tail byte that RFC 3629's table leaves out behind it, and the tail of that many bytes."""
+    form = next(form for form in FORMS if form[0][0] == first)
+    second = draw.pick([byte for byte in range(0x80, 0xC0) if not form[1][0] <= byte <= form[1][1]])
+    return bytes([first, second, *(0x80 + draw.below(64) for _ in form[2:])])
+
+
 def odd_form(draw):
-    """What is no character of UTF-8: an overlong form, a surrogate or a pair of them, a number past the end, a form cut short, or a byte alone."""
+    """What is no character of UTF-8: an overlong form, a surrogate or a pair of them, a number past the end, a form cut short or with a byte that is hardly none of
+    its tail, or a byte alone."""
     last, size, _ = draw.pick(RANGES[:3])
-    kind = draw.below(7)
+    whole = utf8(draw.pick(POINTS[3:]))
+    kind = draw.below(8)
     if kind == 0:
         return long_form(draw.pick((0, 1, last, draw.below(last + 1))), size + 1 + draw.below(6 - size))
     if kind == 1:
@@ -133,9 +142,11 @@ def odd_form(draw):
     if kind == 3:
         return long_form(draw.pick((0x110000, 0x13FFFF, 0x140000, 0x1FFFFF, 0x110000 + draw.below(0xF0000))), 4)
     if kind == 4:
-        whole = utf8(draw.pick(POINTS[3:]))
         return whole[: draw.below(len(whole))]
-    return bytes([draw.pick(EDGE_BYTES)]) if kind == 5 else b"\0"
+    if kind == 5:
+        at = 1 + draw.below(len(whole) - 1)
+        return whole[:at] + draw.pick((b"\x7f", b"\xc0", b"\0")) + whole[at + 1 :]
+    return bytes([draw.pick(EDGE_BYTES)]) if kind == 6 else b"\0"
 
 
 def name_bytes(draw):
@@ -166,6 +177,12 @@ def name_of_text_call(draw, b):
     if kind == 10:
         return (text + draw.pick((odd_form(draw), utf8(draw.pick(POINTS)))) + odd_form(draw),)
     return (bytes(draw.pick(EDGE_BYTES) for _ in range(draw.below(9))) if draw.chance(70) else draw.data(draw.below(130)),)
+
+
+def left_out_texts(draw):
+    """One text for each first byte behind which the table leaves something out, with other characters before and behind it."""
+    for first in LEFT_OUT:
+        yield utf8(draw.pick(POINTS)) * draw.below(4) + left_out(draw, first) + utf8(draw.pick(POINTS)) * draw.below(4)
 
 
 CALLS = {
