@@ -141,7 +141,7 @@ boundary: lib
 	$(CC) -std=c11 -Wall -Wextra $(CFLAGS) -Iinclude -o target/boundary tests/c/boundary.c target/lib/libcard.a $(LDFLAGS)
 	target/boundary
 
-# Makes 200,000 calls of every export of include/card.h between pages that cannot be touched (tests/c). Variables: SEED, CALLS.
+# Makes 200,000 calls over all exports of include/card.h between pages that cannot be touched (tests/c). Variables: SEED, CALLS.
 guard: lib
 	$(CC) -std=c11 -Wall -Wextra -pedantic $(CFLAGS) -Iinclude -o target/guard tests/c/guard.c target/lib/libcard.a $(LDFLAGS)
 	tests/c/exports.sh target/guard names

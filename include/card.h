@@ -1,5 +1,5 @@
 /* The card table for C, C++ and whatever else calls C: the card calls (card_..) and the ported calls on GPT headers, entries and the
-   protective MBR, and text (gpt_..). The library is libcard.a or libcard.so, which `make lib` writes to target/lib; it is for x86-64.
+   protective MBR (gpt_..), and calls on text (either). The library is libcard.a or libcard.so, which `make lib` writes to target/lib; it is for x86-64.
 
    Every call takes every number and every image of bytes: it ends, and it accepts or refuses by a number from the table below. A refused
    call changes no byte that was lent to it, and every field of its answer but the number, and the slot or the place that the number names, is zero, but for a map that
@@ -7,7 +7,7 @@
 
    What a caller owes:
    - A lent slice is a pointer and then a length in bytes. The pointer points to so many bytes and is never null, also where the length is 0. A row of
-     64-bit numbers, or of slots, has its length in numbers.
+     64-bit numbers, of slots, or of UTF-16 units has its length in numbers, slots or units.
    - Two slices that are lent to one call do not overlap if the call writes one of them.
    - While a call runs, nobody else writes a slice that is lent to it: no other thread, no other process and no device. A call that only reads
      a slice lets others read it too.
@@ -1220,8 +1220,9 @@ CARD_AT(gpt_name_of_text, name, 16);
 card_version_numbers card_version(void);
 
 /* The words of a number in an answer, with the place and the slot that it names, as "refused 22, Overlap: a block that another slot has (slot 1)", stored with a zero behind them.
-   number: from an answer; "accepted" is said of 0, and of a number that is in neither table that the library has no such number. place: an enum card_place, or 0. slot: the one that the
-   answer names, or differs where place is CARD_PLACE_SLOT, or 0; card_answer_message picks it. What a number does not name is left out of its words.
+   number: from an answer; "accepted" is said of 0, and of a number that is in neither table that the library has no such number. place: an enum card_place, or 0; one that the number does
+   not have is left out. slot: the one that the answer names, or differs where place is CARD_PLACE_SLOT, or 0; card_answer_message picks it. A slot that is not 0 is told, but for an accepted
+   call, beside a table or the disk GUIDs, and for a number that the library does not have.
    2 where out has no room for the words and the zero. */
 card_text card_message(char *out, size_t out_len, uint32_t number, uint32_t place, uint32_t slot);
 
@@ -1238,7 +1239,7 @@ card_text gpt_guid_to_text(char *out, size_t out_len, gpt_guid guid);
    39: at is the first wrong byte; a text that is too short is wrong where it ends, and one that is too long at 36. */
 gpt_guid_of_text gpt_guid_from_text(const char *text, size_t text_len);
 
-/* A name in UTF-8, stored with a zero behind it: its units before the first zero, at most 36 of those lent; what stands behind the 36th is not looked at. A surrogate without its
+/* A name in UTF-8, stored with a zero behind it: its units before the first zero, at most 36 of those lent; what stands behind the 36th is not looked at. name_len counts units. A surrogate without its
    partner is told as U+FFFD.
    2 where out has no room for both. */
 card_text gpt_name_to_utf8(char *out, size_t out_len, const uint16_t *name, size_t name_len);

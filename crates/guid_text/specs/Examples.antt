@@ -1,4 +1,4 @@
--- The definitions on texts from outside: the type of an EFI system partition as UEFI 2.10, table 5-7, gives it, the example of RFC 9562, appendix A.1, in upper case, and texts that are no GUIDs. Assumes nothing.
+-- The definitions on texts from outside: the type of an EFI system partition as UEFI 2.10, table 5-7, gives it, told in lower case and read in upper case, and texts that are no GUIDs. Assumes nothing.
 use mathlib.Core.Path.{_≡_, refl}
 use Rattle.units.specs.declared.Guid.{Guid}
 use Rattle.text.specs.Digits.{digitOf, digits}

@@ -9,7 +9,7 @@ use Rattle.units.specs.Answer.{pick}
 unfoldable pub between : ℕ → ℕ → ℕ → Bool
 between lo hi c = pick (ltb c lo) false (leb c hi)
 
--- what a digit of either case stands for, 0 to 9, A to F or a to f; 16 for what is no digit
+-- what a digit of either case stands for, 0 to 9 (the codes 48 to 57), A to F (65 to 70) or a to f (97 to 102); 16 for what is no digit
 unfoldable pub digitValue : ℕ → ℕ
 digitValue c = pick (between 48 57 c) (c - 48) (pick (between 65 70 c) (c - 55) (pick (between 97 102 c) (c - 87) 16))
 

@@ -55,7 +55,7 @@ fn is_between(lo: u8, hi: u8, c: u8) -> bool
     c <= hi
 }
 
-// What a digit of either case stands for; 16 for what is no digit.
+// What a digit of either case stands for; 16 for what is no digit. The letter A stands for ten: its code is 65, and that of a is 97.
 pub fn digit_value(c: u8) -> u8
     ensures { λ r. ⌜ r ≡ digitValue c ⌝ }
 {

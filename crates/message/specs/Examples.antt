@@ -1,4 +1,4 @@
--- The words on examples, as they stand in the tests of the Python and the Rust host. Assumes nothing.
+-- The words on examples: a slot, a table and a difference as the hosts say them, no refusal, and a number that the library does not have. Assumes nothing.
 use mathlib.Core.Path.{_≡_, refl}
 use Rattle.text.specs.Digits.{digitOf, digits}
 use Rattle.text.specs.Texts.{ascii}

@@ -65,16 +65,16 @@ fn line_for(number: u32, place: u32) -> u32
     number
 }
 
-// The whole message at the start of a buffer, and its length.
+// The whole message at the start of a buffer, and its length: at most 158, so that 160 bytes are enough for it and a zero.
 fn compose(out: &mut [u8; 160], number: u32, place: u32, slot: u32) -> usize
-    ensures { λ r. ⌜ (r ≡ length (messageText number place slot)) × (r ≤ 160) × (now (out .exit) ≡ sets (now (out .entry)) 0 (messageText number place slot)) ⌝ }
+    ensures { λ r. ⌜ (r ≡ length (messageText number place slot)) × (r ≤ 158) × (now (out .exit) ≡ sets (now (out .entry)) 0 (messageText number place slot)) ⌝ }
 {
     let line = line_for(number, place);
     let n = lines::put_line(out, line);
     slots::put_slot(out, n, line, slot)
 }
 
-// Stores the words of a number, the place and the slot that it names, and a zero behind them: 2 where there is no room. A place or a slot that a number does not name is 0.
+// Stores the words of a number, the place and the slot that it names, and a zero behind them: 2 where there is no room. A place that a number does not have is left out; a slot is told wherever it is not 0 and the line has no table or slot of its own.
 pub fn message(out: &mut [u8], number: u32, place: u32, slot: u32) -> Stored
     ensures { λ r. ⌜ Ends (textStored (now (out .entry)) (messageText number place slot)) (storedMeans r) (now (out .exit)) ⌝ }
 {

@@ -53,7 +53,7 @@ fn put_bracketed(out: &mut [u8; 160], at: usize, slot: u32) -> usize
 // The words of the slot behind a line of a message, and the place behind them.
 pub fn put_slot(out: &mut [u8; 160], at: usize, line: u32, slot: u32) -> usize
     requires { ⌜ at ≤ 140 ⌝ }
-    ensures { λ r. ⌜ (r ≡ at + length (slotWords line slot)) × (r ≤ 160) × (now (out .exit) ≡ sets (now (out .entry)) at (slotWords line slot)) ⌝ }
+    ensures { λ r. ⌜ (r ≡ at + length (slotWords line slot)) × (r ≤ 158) × (now (out .exit) ≡ sets (now (out .entry)) at (slotWords line slot)) ⌝ }
 {
     if line == 51 {
         return put_decimal(out, at, slot);

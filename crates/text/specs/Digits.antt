@@ -4,7 +4,7 @@ use Prim.Native.Nat.{ℕ, zero, suc, _+_, _/_, _%_}
 use lib.Dec.{ltb}
 use Rattle.units.specs.Answer.{pick}
 
--- the digit of a value below 16
+-- the digit of a value below 16: the code of 0 is 48, and that of a, for ten, is 97
 unfoldable pub digitOf : ℕ → ℕ
 digitOf v = pick (ltb v 10) (48 + v) (87 + v)
 
