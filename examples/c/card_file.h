@@ -31,7 +31,7 @@ typedef struct card_file {
 /* That reading or writing failed is no verdict on the card. */
 static inline void fail(const card_file *f, const char *what, const char *left) {
     bool name = errno == ENOENT || errno == EACCES || errno == EISDIR;
-    fprintf(stderr, "%s: %s: %s. %s Next: %s.\n", f->path, what, strerror(errno), left, name ? "look at the name, and at who may open it" : "look at the device and its cable, then run list");
+    fprintf(stderr, "%s: %s: %s. %s Next: %s.\n", f->path, what, strerror(errno), left, name ? "look at the name, and at who may open it" : "mend what the system says, a full disk or a device and its cable, then run list");
     exit(FAILED);
 }
 
@@ -47,11 +47,20 @@ static inline uint64_t number_in(const char *word, const char *usage) {
     return n;
 }
 
-/* Waits for whoever else has the file open here, so that two updates come one after the other. */
+/* What a command ends with, unless its words could not be written. */
+static inline int ended(int status) {
+    if (fflush(stdout) == 0) return status;
+    fprintf(stderr, "what was done could not be printed: %s. Next: run list.\n", strerror(errno));
+    return FAILED;
+}
+
+/* Waits for whoever else has the file open here, and says so, so that two updates come one after the other. */
 static inline void open_card(card_file *f, const char *path, int flags) {
     f->path = path;
     f->fd = open(path, flags, 0666);
-    if (f->fd < 0 || flock(f->fd, flags == O_RDONLY ? LOCK_SH : LOCK_EX) != 0) fail(f, "cannot be opened", unchanged);
+    int lock = flags == O_RDONLY ? LOCK_SH : LOCK_EX;
+    if (f->fd >= 0 && flock(f->fd, lock | LOCK_NB) != 0 && errno == EWOULDBLOCK) fprintf(stderr, "%s: another program has it open; waiting.\n", path);
+    if (f->fd < 0 || flock(f->fd, lock) != 0) fail(f, "cannot be opened", unchanged);
     off_t size = lseek(f->fd, 0, SEEK_END);
     if (size < 0) fail(f, "has no length", unchanged);
     f->size = (uint64_t)size;
@@ -76,13 +85,23 @@ static inline void take_windows(card_file *f, uint64_t b) {
     read_bytes(f, f->tail, f->tail_len, f->blocks * b - f->tail_len);
 }
 
-/* The block size at which the reader takes a table, 512 or 4,096. Where it takes none, 512 is left, and the answer is the reader's there. */
+/* Whether the second block of this size begins as a header does. */
+static inline bool begins(const card_file *f, uint64_t b) { return f->head_len >= b + 8 && memcmp(f->head + b, "EFI PART", 8) == 0; }
+
+/* The block size at which the reader takes a table, 512 or 4,096. Where it takes none, 512 is left, and the answer is the reader's there. A file that shows tables of both sizes, as a card that
+   was copied over an older one does, is for a person to judge, and the program ends. */
 static inline card_copy find_card(card_file *f) {
     take_windows(f, 4096);
-    card_copy copy = card_window_reader_copy(WINDOWS(f));
-    if (copy.number == 0) return copy;
+    card_copy large = card_window_reader_copy(WINDOWS(f));
+    bool both = large.number == 0 && begins(f, 512);
     take_windows(f, 512);
-    return card_window_reader_copy(WINDOWS(f));
+    card_copy small = card_window_reader_copy(WINDOWS(f));
+    if (both || (small.number == 0 && (large.number == 0 || begins(f, 4096)))) {
+        fprintf(stderr, "%s: shows tables of blocks of 512 and of 4,096 bytes, and one may be an older card's. Nothing was changed. Next: look at both by card list -b, and judge which card it is.\n", f->path);
+        exit(REFUSED);
+    }
+    if (large.number == 0) take_windows(f, 4096);
+    return large.number == 0 ? large : small;
 }
 
 /* Writes one block at a place, whole. */
@@ -110,20 +129,20 @@ static inline uint64_t store_changed(const card_file *f, card_file *was, const c
 
 /* What to do next about a number; what it means is the library's to say. */
 static const struct { uint32_t number; const char *what; } next[] = {
-    {3, "take a smaller file"},
-    {4, "if there is a good copy, update repairs it; else look whether this is a card"},
-    {5, "if there is a good copy, update repairs it; of another maker's card, card uefi shows the table"},
-    {6, "if there is a good copy, update repairs it"},
-    {8, "take a longer file"},
-    {10, "take a longer file, at least 34,816 bytes"},
-    {16, "compare the file's length with the card's; of another maker's card, card uefi shows the table"},
-    {17, "update takes the table that readers show, and repairs the other"},
-    {18, "name a slot from 1 to 128"},
-    {20, "name the blocks the other way round"},
-    {21, "list shows the free ranges"},
-    {22, "list shows the free ranges"},
-    {25, "run it again: the GUID is drawn anew"},
-    {27, "look whether this is a card of this length; of another maker's card, card uefi shows the table"},
+    {CARD_OVERFLOW, "take a smaller file"},
+    {CARD_INVALID_GPT_SIGNATURE, "if there is a good copy, update repairs it; else look whether this is a card"},
+    {CARD_INVALID_CRC32_CHECKSUM, "if there is a good copy, update repairs it; of another maker's card, card uefi shows the table"},
+    {CARD_PARTS_CRC, "if there is a good copy, update repairs it"},
+    {CARD_TO_SMALL_FOR_BACKUP, "take a longer file"},
+    {CARD_BACKUP_LBA_TO_EARLY, "take a longer file, at least 34,816 bytes"},
+    {CARD_WRONG_LAYOUT, "compare the file's length with the card's; of another maker's card, card uefi shows the table"},
+    {CARD_DISAGREE, "update takes the table that readers show, and repairs the other"},
+    {CARD_BAD_SLOT, "name a slot from 1 to 128"},
+    {CARD_BAD_RANGE, "name the blocks the other way round"},
+    {CARD_OUTSIDE_USABLE, "list shows the free ranges"},
+    {CARD_OVERLAP, "list shows the free ranges"},
+    {CARD_TWIN_GUID, "run it again: the GUID is drawn anew"},
+    {CARD_NO_GOOD_COPY, "look whether this is a card of this length; of another maker's card, card uefi shows the table"},
 };
 
 /* Says what was refused, what is left, and what to do. slot is the answer's, or differs where the place is a slot. */

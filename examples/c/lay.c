@@ -6,7 +6,18 @@
 
 static const char usage[] = "lay FILE BYTES NAME";
 
-/* A new file gets its length; one that is there must have it, and no card with used slots. */
+/* Whether all bytes of the windows are zero. */
+static bool blank(const card_file *f) {
+    for (size_t k = 0; k < f->head_len; k++) {
+        if (f->head[k] != 0) return false;
+    }
+    for (size_t k = 0; k < f->tail_len; k++) {
+        if (f->tail[k] != 0) return false;
+    }
+    return true;
+}
+
+/* A new file gets its length; one that is there must have it, and be blank where the tables go or have a card without used slots. */
 static int look(card_file *f, uint64_t bytes) {
     struct stat about;
     if (fstat(f->fd, &about) != 0) fail(f, "cannot be looked at", unchanged);
@@ -18,16 +29,19 @@ static int look(card_file *f, uint64_t bytes) {
         fprintf(stderr, "%s: is there, with %" PRIu64 " bytes and not %" PRIu64 ". Nothing was changed. Next: name its own length, or another file.\n", f->path, f->size, bytes);
         return REFUSED;
     }
-    if (f->size != 0 && find_card(f).number == 0 && card_window_reader_count(WINDOWS(f)).count != 0) {
-        fprintf(stderr, "%s: has a card with %" PRIu32 " used slots, which a lay would drop. Nothing was changed. Next: move the file away.\n", f->path, card_window_reader_count(WINDOWS(f)).count);
-        return REFUSED;
-    }
-    return DONE;
+    if (f->size == 0) return DONE;
+    bool card = find_card(f).number == 0;
+    gpt_count used = card_window_reader_count(WINDOWS(f));
+    if (card && used.count == 0) return DONE;
+    if (card) fprintf(stderr, "%s: has a card with %" PRIu32 " used slots, which a lay would drop. Nothing was changed. Next: move the file away.\n", f->path, used.count);
+    if (!card && blank(f)) return DONE;
+    if (!card) fprintf(stderr, "%s: is not blank where the tables go: another table, a card of another length or a file system may be there. Nothing was changed. Next: look at it, and move the file away.\n", f->path);
+    return REFUSED;
 }
 
-/* Stores a laid card so that a cut leaves no table, or the whole new one: block 0 and the back table, then the front array, then the front header. */
+/* Stores a laid card so that a cut leaves what was there, or the whole new table: block 0 and the back table, then the front array, then the front header. */
 static void store(const card_file *laid, card_file *was) {
-    static const char left[] = "A part of the tables was written, and the card is not yet laid.";
+    static const char left[] = "A part of the tables was written; list shows what readers see.";
     static card_file step;
     step = *was;
     memcpy(step.head, laid->head, laid->b);
@@ -67,5 +81,5 @@ int main(int n, char **word) {
     store(&laid, &was);
     card_slot_read one = card_window_read_slot(WINDOWS(&laid), 1);
     printf("%s: laid: %" PRIu64 " blocks of 512 bytes; slot 1 has blocks %" PRIu64 " to %" PRIu64 "\n", f.path, laid.blocks, one.partition.first_lba, one.partition.last_lba);
-    return DONE;
+    return ended(DONE);
 }

@@ -10,14 +10,23 @@ static void print_guid(gpt_guid guid) {
     printf("%s", text);
 }
 
-/* A name as UTF-8, with a question mark for a control character, so that a terminal shows the card and does not obey it. Those from U+0080 to U+009F have the bytes C2 and 80 to 9F. */
+/* How many bytes of a text are a character that a terminal would obey: a control character, or one that turns the writing around, U+202A to U+202E and U+2066 to U+2069. */
+static int obeyed(const unsigned char *c) {
+    if (c[0] < 0x20 || c[0] == 0x7F) return 1;
+    if (c[0] == 0xC2 && c[1] < 0xA0) return 2;
+    bool turns = c[0] == 0xE2 && ((c[1] == 0x80 && c[2] >= 0xAA && c[2] <= 0xAE) || (c[1] == 0x81 && c[2] >= 0xA6 && c[2] <= 0xA9));
+    return turns ? 3 : 0;
+}
+
+/* A name as UTF-8, with a question mark for such a character and a backslash before a quote and a backslash. */
 static void print_name(const uint16_t *name) {
     char text[GPT_NAME_TEXT_SIZE];
     gpt_name_to_utf8(text, sizeof text, name, 36);
-    for (const unsigned char *c = (const unsigned char *)text; *c; c++) {
-        bool long_control = *c == 0xC2 && c[1] < 0xA0;
-        printf("%c", *c < 0x20 || *c == 0x7F || long_control ? '?' : *c);
-        c += long_control;
+    for (const unsigned char *c = (const unsigned char *)text; *c;) {
+        int n = obeyed(c);
+        if (*c == '"' || *c == '\\') printf("\\");
+        printf("%c", n ? '?' : *c);
+        c += n ? n : 1;
     }
 }
 
@@ -64,6 +73,6 @@ int main(int n, char **word) {
     }
     print_free(&f);
     printf("used %" PRIu32 " of 128; %" PRIu64 " blocks of %" PRIu64 " bytes; %s\n", used.count, f.blocks, f.b, check.number == 0 ? "whole" : copy.back ? "the back table" : "the front table");
-    if (fflush(stdout) != 0) return FAILED;
+    if (ended(DONE) != DONE) return FAILED;
     return check.number == 0 ? DONE : refuse(&f, "listed, but not whole", unchanged, check.number, check.differs, check.place);
 }

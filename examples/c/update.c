@@ -53,6 +53,10 @@ int main(int n, char **word) {
         return FAILED;
     }
     uint64_t slot = number_in(word[2], usage), first = number_in(word[3], usage), last = number_in(word[4], usage), stages = n > 6 ? number_in(word[6], usage) : 4;
+    if (stages > 4) {
+        fprintf(stderr, "STAGES is 0 to 4. Usage: %s\n", usage);
+        return FAILED;
+    }
     if (slot > 128) slot = 0; /* no slot either way: the library refuses it by 18 */
     gpt_name_of_text name = name_in(word[5]);
     open_card(&f, word[1], O_RDWR);
@@ -69,5 +73,5 @@ int main(int n, char **word) {
     /* A partition that is there keeps its GUID. */
     card_slot_read before = card_window_read_slot(WINDOWS(&f), (uint32_t)slot);
     gpt_guid guid = before.number == 0 && before.present ? before.partition.part_guid : drawn_guid(&f);
-    return put(&f, &was, (uint32_t)slot, record(first, last, guid, name), stages);
+    return ended(put(&f, &was, (uint32_t)slot, record(first, last, guid, name), stages));
 }

@@ -1,4 +1,4 @@
-"""The readers of the corpus that are programs: the command card, the Python module, the Rust original and other makers' tools. Each is asked where it is there."""
+"""The readers of the corpus that are programs: the command card, the Python package, the Rust original and other makers' tools. Each is asked where it is there."""
 import json
 import os
 import pathlib
@@ -11,7 +11,7 @@ ROOT = pathlib.Path(__file__).resolve().parents[2]
 PATH = os.environ["PATH"] + ":/usr/sbin:/sbin"
 CARD = ROOT / "target" / "card" / "card"
 ORIGINAL = ROOT / "target" / "beside" / "release" / "list"
-# What the Python module says of each file that it is given with a block size: one line of JSON for each.
+# What the Python package says of each file that it is given with a block size: one line of JSON for each.
 MODULE = """
 import card, json, sys
 def told(ask):
@@ -51,13 +51,13 @@ def command(judge, row, path):
 def module(judge, rows, folder):
     words = [word for row in rows for word in (folder / f"{row['name']}.img", row["size"])]
     status, text = run(sys.executable, "-c", MODULE, *words, PYTHONPATH=str(ROOT / "hosts" / "python"))
-    judge.same("all images", "the Python module's exit status", status, 0)
+    judge.same("all images", "the Python package's exit status", status, 0)
     for row, line in zip(rows, text.splitlines()):
         image, file, tables, same = json.loads(line)
-        judge.same(row["name"], "the Python module's listing", image, row["list"])
-        judge.same(row["name"], "the Python module's listing of the file", file, row["list"])
-        judge.same(row["name"], "the Python module's second edition", tables, row["second"])
-        judge.same(row["name"], "the Python module leaves the image", same, True)
+        judge.same(row["name"], "the Python package's listing", image, row["list"])
+        judge.same(row["name"], "the Python package's listing of the file", file, row["list"])
+        judge.same(row["name"], "the Python package's second edition", tables, row["second"])
+        judge.same(row["name"], "the Python package leaves the image", same, True)
 
 
 def original(judge, row, path):
@@ -93,7 +93,7 @@ def programs(judge, rows, folder, listings):
         there.append("the card command")
         for row in rows:
             command(judge, row, folder / f"{row['name']}.img")
-    there.append("the Python module")
+    there.append("the Python package")
     module(judge, rows, folder)
     if ORIGINAL.exists():
         there.append("the Rust original")

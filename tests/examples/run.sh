@@ -111,6 +111,26 @@ longer() {
     cmp longer.img before.img || fail "a refused update changed a byte"
 }
 
+# A card that was copied over an older one with blocks of the other size is nobody's to repair; and what is not blank is not laid over.
+older() {
+    "$room/large" older.img 134217728 || fail "a card of blocks of 4,096 bytes is not laid"
+    dd if=field.img of=older.img conv=notrunc 2>/dev/null
+    cp older.img before.img
+    both="older.img: shows tables of blocks of 512 and of 4,096 bytes, and one may be an older card's. Nothing was changed. Next: look at both by card list -b, and judge which card it is."
+    says 1 "$both" ./update older.img 2 100 200 west
+    says 1 "$both" ./list older.img
+    cmp older.img before.img || fail "a refused update changed a byte"
+    cp field.img grown.img
+    truncate -s 134217728 grown.img
+    says 1 "grown.img: is not blank where the tables go: another table, a card of another length or a file system may be there. Nothing was changed. Next: look at it, and move the file away." ./lay grown.img 134217728 gone
+    truncate -s 0 grown.img
+    truncate -s 34816 grown.img
+    says 0 "grown.img: laid: 68 blocks of 512 bytes; slot 1 has blocks 34 to 34" ./lay grown.img 34816 new
+    says 2 "STAGES is 0 to 4. Usage: update FILE SLOT FIRST LAST NAME [STAGES]" ./update field.img 3 34 34 west 7
+    [ ! -e /dev/full ] || says 2 "what was done could not be printed: No space left on device. Next: run list." sh -c './list field.img >/dev/full'
+    rm older.img grown.img
+}
+
 refusals() {
     cp field.img before.img
     says 1 "field.img: not put: refused 22, Overlap: a block that another slot has (slot 1). Nothing was changed. Next: list shows the free ranges." ./update field.img 3 2047 2048 west
@@ -134,6 +154,11 @@ others() {
     says 0 "$one of 2026-05-01, style 3, sheet 12
 $two
 used 2 of 128; 131072 blocks of 512 bytes; whole" ./list field.img
+    printf 'a", "b\\\342\200\256c' >odd
+    says 0 "odd.img: laid: 68 blocks of 512 bytes; slot 1 has blocks 34 to 34" ./lay odd.img 34816 "$(cat odd)"
+    says 0 "slot 1: 34 to 34, type $data, GUID .., \"a\\\", \\\"b\\\\?c\"
+used 1 of 128; 68 blocks of 512 bytes; whole" ./list odd.img
+    rm odd odd.img
     says 0 "small.img: laid: 68 blocks of 512 bytes; slot 1 has blocks 34 to 34" ./lay small.img 34816 "$(printf 'Höhe 🔥 \302\205')"
     says 0 "slot 1: 34 to 34, type $data, GUID .., \"Höhe 🔥 ?\"
 used 1 of 128; 68 blocks of 512 bytes; whole" ./list small.img
@@ -165,12 +190,14 @@ used 2 of 128; 131072 blocks of 512 bytes; whole" sh -e row
     cuts
     damaged
     longer
+    older
     refusals
     others
     rm -f ./*.img
     cd - >/dev/null || exit 1
 }
 
+cc -std=c11 -Iexamples/c -I"$place/include" -o "$room/large" tests/examples/large.c "$place/lib/libcard.a" || fail "the page for blocks of 4,096 bytes does not compile"
 in_a_row shared
 in_a_row static
 grep -q 'libcard\.so\.0' "$room/shared/list" || fail "the shared program does not ask for libcard.so.0"

@@ -24,7 +24,7 @@ def _named(path: str) -> ctypes.PyDLL:
     """The library that CARD_LIBRARY names."""
     if not os.path.exists(path):
         raise FileNotFoundError(errno.ENOENT, "CARD_LIBRARY names a library that is not there", path)
-    return ctypes.PyDLL(path)
+    return ctypes.PyDLL(os.path.abspath(path))
 
 
 def _open() -> ctypes.PyDLL:
@@ -50,16 +50,23 @@ _slice = (c_void_p, c_size_t)
 _image = (*_slice, c_uint64)
 
 
+def _function(name: str) -> ctypes._NamedFuncPointer:
+    try:
+        return lib[name]
+    except AttributeError:
+        raise ImportError(f"{lib._name} has no {name}: it is another library, or one of another version than this package") from None
+
+
 def _call(name: str, result: type[R], *arguments: Taken) -> Callable[..., R]:
     """A call that answers with a struct."""
-    call = lib[name]
+    call = _function(name)
     call.restype, call.argtypes = result, arguments
     return call
 
 
 def _plain(name: str, *arguments: Taken) -> Callable[..., int]:
     """A call that answers with a number of 32 bits."""
-    call = lib[name]
+    call = _function(name)
     call.restype, call.argtypes = c_uint32, arguments
     return call
 
