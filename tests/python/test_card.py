@@ -788,6 +788,11 @@ class Refusals(unittest.TestCase):
             for again in [pickle.loads(pickle.dumps(refusal, protocol)) for protocol in range(pickle.HIGHEST_PROTOCOL + 1)] + [copy.copy(refusal)]:
                 self.assertEqual((type(again), again.number, again.slot, again.name, str(again)), (card.Refused, refusal.number, refusal.slot, refusal.name, str(refusal)))
 
+    def test_what_is_noted_on_a_refusal_is_kept(self):
+        refusal = card.Refused(22, 7)
+        refusal.at_bench = 3
+        self.assertEqual([pickle.loads(pickle.dumps(refusal)).at_bench, copy.copy(refusal).at_bench], [3, 3])
+
     def test_a_refusal_comes_from_another_process(self):
         with concurrent.futures.ProcessPoolExecutor(1) as pool:
             for call, number, slot in ((refuse_in_a_process, 10, 0), (collide_in_a_process, 22, 3)):

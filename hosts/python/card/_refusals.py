@@ -83,9 +83,9 @@ class Refused(Exception):
         self.number, self.slot, self.place, self.differs, self.name = number, slot, place, differs, NUMBERS[number][0]
         super().__init__(f"refused {number}, {self.name}: {_meaning(number, slot, place, differs)}")
 
-    def __reduce__(self) -> tuple[type[Refused], tuple[int, int, int, int]]:
-        """Made again from its numbers, so that it passes from one process to another."""
-        return type(self), (self.number, self.slot, self.place, self.differs)
+    def __reduce__(self) -> tuple[type[Refused], tuple[int, int, int, int], dict[str, object]]:
+        """Made again from its numbers, with what was noted on it, so that it passes from one process to another."""
+        return type(self), (self.number, self.slot, self.place, self.differs), self.__dict__
 
 
 def take(answer: A) -> A:

@@ -1,4 +1,25 @@
-//! The C interface of libcard, whole: every struct and every function of include/card.h, by their C names. That header says what they mean.
+//! The C interface of libcard, whole: every struct and every function of include/card.h, by their C names. That header says what each means and by which numbers it refuses.
+//!
+//! The safe part of this crate makes the card calls; here are also the ported calls on headers, entries and the MBR, and the calls on text. An answer has its number first, 0 for
+//! accepted; beside a refusal its other fields are zero, but for the slot, the place or the byte that the number names.
+//!
+//! # Safety
+//!
+//! Every call takes every number and every content of the bytes. What it cannot see for itself its caller owes:
+//! - a pointer and the length behind it are one slice: never null, also where the length is 0, and aligned for its numbers;
+//! - a slice that a call writes, `*mut`, overlaps no other of that call, and no one else reads or writes it until the call returns; a slice that it only reads no one else writes;
+//! - a yes/no, a `u8` here, is 0 or 1;
+//! - there are 20,480 bytes of stack.
+//!
+//! ```
+//! use card::ffi::*;
+//!
+//! let mut words = [0; 160];
+//! // SAFETY: each pointer and length are those of one slice.
+//! let (sum, said) = unsafe { (gpt_crc32(b"123456789".as_ptr(), 9), card_message(words.as_mut_ptr(), words.len(), 22, 0, 1)) };
+//! assert_eq!(sum, 0xcbf4_3926);
+//! assert_eq!(&words[..said.length], b"refused 22, Overlap: a block that another slot has (slot 1)");
+//! ```
 #![allow(missing_docs, non_camel_case_types)]
 use core::mem::size_of;
 
@@ -41,6 +62,7 @@ macro_rules! place_of {
 macro_rules! structs {
     ($($name:ident $size:literal { $($place:literal $field:ident: $type:ty),* })*) => {
         $(
+            #[doc = concat!("`", stringify!($name), "` of include/card.h: ", stringify!($size), " bytes.")]
             #[repr(C)]
             #[derive(Clone, Copy, Debug, PartialEq, Eq)]
             pub struct $name { $(pub $field: $type),* }
@@ -58,7 +80,12 @@ macro_rules! structs {
 /// Declares functions of the header.
 macro_rules! functions {
     ($(fn $name:ident($($parameter:ident: $type:ty),*) $(-> $answer:ty)?;)*) => {
-        extern "C" { $(pub fn $name($($parameter: $type),*) $(-> $answer)?;)* }
+        extern "C" {
+            $(
+                #[doc = concat!("`", stringify!($name), "` of include/card.h.")]
+                pub fn $name($($parameter: $type),*) $(-> $answer)?;
+            )*
+        }
 
         /// Each function as it is declared, and where the library has it.
         #[cfg(test)]

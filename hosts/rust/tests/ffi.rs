@@ -101,7 +101,15 @@ fn the_words_of_a_refusal_are_the_librarys() {
 
 #[test]
 fn a_guid_is_told_and_read_as_the_library_does() {
-    let texts = ["ebd0a0a2-b9e5-4433-87c0-68b6b72699c7", "EBD0A0A2-B9E5-4433-87C0-68B6B72699C7", "", "ebd0a0a2", "ebd0a0a2-b9e5-4433-87c0-68b6b72699c7 ", "{bd0a0a2-b9e5-4433-87c0-68b6b72699c}", "ebd0a0a2_b9e5-4433-87c0-68b6b72699c7"];
+    let texts = [
+        "ebd0a0a2-b9e5-4433-87c0-68b6b72699c7",
+        "EBD0A0A2-B9E5-4433-87C0-68B6B72699C7",
+        "",
+        "ebd0a0a2",
+        "ebd0a0a2-b9e5-4433-87c0-68b6b72699c7 ",
+        "{bd0a0a2-b9e5-4433-87c0-68b6b72699c}",
+        "ebd0a0a2_b9e5-4433-87c0-68b6b72699c7",
+    ];
     for text in texts {
         // SAFETY: the pointer and the length are those of one text.
         let read = unsafe { gpt_guid_from_text(text.as_ptr(), text.len()) };
