@@ -13,7 +13,8 @@ use Rattle.units.specs.declared.Guid.{Guid}
 use Rattle.units.specs.Answer.{pick}
 use Rattle.units.specs.Bytes.{part}
 use Rattle.text.specs.Digits.{digitOf, digits}
-use Rattle.guid_text.specs.Hex.{between, digitValue, hexAfter}
+use Rattle.text.proofs.Laws.{in-between, above}
+use Rattle.guid_text.specs.Hex.{digitValue, hexAfter}
 use Rattle.guid_text.specs.GuidTexts.{big, guidText, dashPlace, rightAt, wrongFrom, hexIn, tailIn, guidIn, guidOfText}
 use Rattle.guid_text.proofs.Laws.{length-text}
 
@@ -21,21 +22,18 @@ use Rattle.guid_text.proofs.Laws.{length-text}
 
 -- a digit that was written is read as its value
 digit-below : (v : ℕ) → v < 16 → digitValue (digitOf v) ≡ v
-unfolding digitValue digitOf between
+unfolding digitValue digitOf
 digit-below v h = go (ltb v 10) refl
   where
     go : (t : Bool) → ltb v 10 ≡ t → digitValue (digitOf v) ≡ v
-    go true e = let l = ltb-true v 10 e in rw (e, le-ltb (48 + v) 48 (omega arith), le-leb (48 + v) 57 (omega arith)) (omega arith)
+    go true e = let l = ltb-true v 10 e in rw (e, ← in-between 48 (48 + v) 57 (omega arith) (omega arith)) (omega arith)
     go false e =
         let g = ltb-false v 10 e in
         rw (
           e,
-          le-ltb (87 + v) 48 (omega arith),
-          lt-leb (87 + v) 57 (omega arith),
-          le-ltb (87 + v) 65 (omega arith),
-          lt-leb (87 + v) 70 (omega arith),
-          le-ltb (87 + v) 97 (omega arith),
-          le-leb (87 + v) 102 (omega arith),
+          ← above 48 (87 + v) 57 (omega arith) (omega arith),
+          ← above 65 (87 + v) 70 (omega arith) (omega arith),
+          ← in-between 97 (87 + v) 102 (omega arith) (omega arith),
         ) (omega arith)
 
 digit-back : (y : ℕ) → digitValue (digitOf (y % 16)) ≡ y % 16

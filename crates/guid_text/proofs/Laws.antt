@@ -16,7 +16,8 @@ use Rattle.units.proofs.Laws.{by-pick}
 use Rattle.units.proofs.Lists.{and-then, sets-all, part-step}
 use Rattle.text.specs.Digits.{digits}
 use Rattle.text.proofs.Laws.{length-digits}
-use Rattle.guid_text.specs.Hex.{between, digitValue, hexAfter}
+use Rattle.text.specs.Ranges.{between}
+use Rattle.guid_text.specs.Hex.{digitValue, hexAfter}
 use Rattle.guid_text.specs.GuidTexts.{dash, group, clockOf, nodeOf, guidText, dashPlace, rightAt, wrongFrom}
 
 -- ---- a group of digits
@@ -25,15 +26,6 @@ pub group-stored : (s : List ℕ) (at n x : ℕ) {s₁ : List ℕ} → s₁ ≡ 
 group-stored s at n x e = and-then s at (digits 16 n x) (at + n) (dash ∷ []) (omega (arith, length-digits 16 n x)) e refl
 
 -- ---- digits that are read
-
-unlike : false ≡ true → ⊥
-unlike q = let o : _≡_ {A = ℕ} 0 1 = cc in omega arith
-
--- a byte of a range is not below its low end
-pub from-low : (lo hi c : ℕ) → between lo hi c ≡ true → lo ≤ c
-unfolding between
-from-low lo hi c e =
-    ltb-false c lo (by-pick (λ t. t ≡ true → ltb c lo ≡ false) (ltb c lo) false (leb c hi) (λ _ f. absurd (unlike f)) (λ g _. g) e)
 
 -- what seven digits or fewer stand for has room for one more
 pub below-8 : (i : ℕ) → i < 8 → 16 ^ i ≤ 16 ^ 7

@@ -2,10 +2,11 @@
 use mathlib.Core.Path.{_≡_, refl}
 use Rattle.units.specs.declared.Guid.{Guid}
 use Rattle.text.specs.Digits.{digitOf, digits}
+use Rattle.text.specs.Ranges.{between}
 use Rattle.text.specs.Texts.{ascii}
 use Rattle.guid_text.specs.declared.GuidOfText.{GuidOfText}
 use Rattle.guid_text.specs.GuidTexts.{big, guidText, dashPlace, rightAt, wrongFrom, tailIn, guidIn, guidOfText, badGuid}
-use Rattle.guid_text.specs.Hex.{between, digitValue, hexAfter}
+use Rattle.guid_text.specs.Hex.{digitValue, hexAfter}
 
 abbrev systemPartition : Guid
 systemPartition = record { «time_low» = 0xC12A7328; «time_mid» = 0xF81F; «time_high» = 0x11D2; tail = record { 0 = 0xBA; 1 = 0x4B; 2 = 0x00; 3 = 0xA0; 4 = 0xC9; 5 = 0x3E; 6 = 0xC9; 7 = 0x3B } }

@@ -1,5 +1,6 @@
 // Leaves for our own crates: each `requires` is a range that its caller has tested. No public calls.
 use crate::GuidOfText;
+use text::inner::is_between;
 use text::inner::put_digits;
 use units::Guid;
 use units::Tail;
@@ -7,7 +8,7 @@ ghost use mathlib.Core.Path.{_≡_};
 ghost use Prim.Native.Nat.{_+_, _^_, _≤_, _<_};
 ghost use lib.ListN.{length};
 ghost use lib.Seq.{sets};
-ghost use Rattle.guid_text.specs.Hex.{between, digitValue};
+ghost use Rattle.guid_text.specs.Hex.{digitValue};
 ghost use Rattle.guid_text.specs.GuidTexts.{group, clockOf, nodeOf, guidText, dashPlace, rightAt, wrongFrom, hexIn, tailIn, guidIn, badGuid};
 
 // The n low hexadecimal digits of x, stored at place at, with a dash behind them.
@@ -45,27 +46,17 @@ pub fn put_guid_text(s: &mut [u8; 36], guid: Guid)
     put_digits(s, 24, 16, 12, node(t));
 }
 
-// Whether a byte is one from lo on to hi.
-fn is_between(lo: u8, hi: u8, c: u8) -> bool
-    ensures { λ r. ⌜ r ≡ between lo hi c ⌝ }
-{
-    if c < lo {
-        return false;
-    }
-    c <= hi
-}
-
 // What a digit of either case stands for; 16 for what is no digit. The letter A stands for ten: its code is 65, and that of a is 97.
 pub fn digit_value(c: u8) -> u8
     ensures { λ r. ⌜ r ≡ digitValue c ⌝ }
 {
-    if is_between(b'0', b'9', c) {
+    if is_between(48, c as u32, 57) {
         return c - b'0';
     }
-    if is_between(b'A', b'F', c) {
+    if is_between(65, c as u32, 70) {
         return c - 55;
     }
-    if is_between(b'a', b'f', c) {
+    if is_between(97, c as u32, 102) {
         return c - 87;
     }
     16

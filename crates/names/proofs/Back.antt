@@ -9,28 +9,18 @@ use native.Mathlib.Omega.{arith}
 use borrow.Author.Tests.{lt-ltb, le-ltb, le-leb, lt-leb}
 use lib.ListN.{length, getD, length-append}
 use lib.Seq.{getD-append-seam, getD-append-add}
+use Rattle.text.proofs.Laws.{above, below, between-true, in-between}
 use Rattle.names.specs.declared.inner.Scalar.{Scalar}
-use Rattle.names.specs.Utf8.{between, surrogate, continues, sizeOf, inRange, ofTwo, ofThree, ofFour, scalarAt, unitsOf, utf8Of, pointOf}
+use Rattle.text.specs.Ranges.{between}
+use Rattle.names.specs.Utf8.{surrogate, continues, sizeOf, inRange, ofTwo, ofThree, ofFour, scalarAt, unitsOf, utf8Of, pointOf}
 use Rattle.names.proofs.Ways.{range-in, two-whole, three-whole, four-whole, at-one, at-two, at-three, at-four}
-use Rattle.names.proofs.Sizes.{one-byte, two-bytes, three-bytes, four-bytes, two-units, between-true}
+use Rattle.names.proofs.Sizes.{one-byte, two-bytes, three-bytes, four-bytes, two-units}
 
 -- one order or the other
 pub split {ℓ} : {X : Type ℓ} (a b : ℕ) → (a < b → X) → (b ≤ a → X) → X
 split a b f g = elim (decLe b a) [ yes h ↦ g h | no h ↦ f (lt-of-not-le h) ]
 
 -- ---- tests
-
-pub in-between : (a x b : ℕ) → a ≤ x → x ≤ b → true ≡ between a x b
-unfolding between
-in-between a x b h k = rw (le-leb a x h, le-leb x b k)
-
-pub below : (a x b : ℕ) → x < a → false ≡ between a x b
-unfolding between
-below a x b h = rw (lt-leb a x h)
-
-pub above : (a x b : ℕ) → a ≤ x → b < x → false ≡ between a x b
-unfolding between
-above a x b h k = rw (le-leb a x h, lt-leb x b k)
 
 size-1 : (c : ℕ) → c < 128 → 1 ≡ sizeOf c
 unfolding sizeOf

@@ -9,10 +9,10 @@ use lib.Dec.{ltb, eqb}
 use lib.ListN.{length, drop, getD}
 use lib.Seq.{drop-cons}
 use Rattle.units.proofs.Laws.{by-pick}
+use Rattle.text.proofs.Laws.{below, between-true}
 use Rattle.names.specs.declared.inner.Scalar.{Scalar}
 use Rattle.names.specs.Utf8.{noScalar, surrogate, continues, sizeOf, inRange, ofTwo, ofThree, ofFour, ofSize, scalarAt, utf8Of}
-use Rattle.names.proofs.Back.{below}
-use Rattle.names.proofs.Sizes.{one-byte, two-bytes, three-bytes, four-bytes, between-true}
+use Rattle.names.proofs.Sizes.{one-byte, two-bytes, three-bytes, four-bytes}
 
 -- ---- what the size says of the first byte
 

@@ -13,14 +13,16 @@ use lib.Seq.{sets, take-length, getD-at, getD-append-add}
 use Rattle.units.specs.Bytes.{allZero}
 use Rattle.units.proofs.Lists.{sets-all, sets-left}
 use Rattle.units.proofs.Laws.{by-pick, zero-at, zero-part}
+use Rattle.text.proofs.Laws.{between-true, in-between}
 use Rattle.names.specs.declared.NameOfText.{NameOfText}
 use Rattle.names.specs.declared.inner.Scalar.{Scalar}
-use Rattle.names.specs.Utf8.{between, surrogate, scalarAt, unitsOf, utf8Of}
+use Rattle.text.specs.Ranges.{between}
+use Rattle.names.specs.Utf8.{surrogate, scalarAt, unitsOf, utf8Of}
 use Rattle.names.specs.NameTexts.{named, refusedName, nameFrom, nameOfText, unitAt, pointAt, textFrom, nameText}
 use Rattle.names.proofs.Ways.{unit-here, point-plain}
-use Rattle.names.proofs.Sizes.{one-unit, two-units, one-count, two-count, at-least-1, between-true}
+use Rattle.names.proofs.Sizes.{one-unit, two-units, one-count, two-count, at-least-1}
 use Rattle.names.proofs.Runs.{step-on, step-end, text-end, text-on}
-use Rattle.names.proofs.Back.{split, in-between, scalar-back, paired, pair-back, pair-point, pair-scalar}
+use Rattle.names.proofs.Back.{split, scalar-back, paired, pair-back, pair-point, pair-scalar}
 use Rattle.names.proofs.Decoded.{Read, read-at}
 
 -- units that are characters, each one unit or a pair, and then zeros alone

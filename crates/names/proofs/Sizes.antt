@@ -9,8 +9,10 @@ use lib.Dec.{leb, ltb, eqb}
 use lib.ListN.{length, getD, set, length-append}
 use lib.Seq.{sets}
 use Rattle.units.proofs.Laws.{by-pick, and-both}
+use Rattle.text.proofs.Laws.{between-true}
 use Rattle.names.specs.declared.inner.Scalar.{Scalar}
-use Rattle.names.specs.Utf8.{between, surrogate, unitsOf, utf8Of, pointOf}
+use Rattle.text.specs.Ranges.{between}
+use Rattle.names.specs.Utf8.{surrogate, unitsOf, utf8Of, pointOf}
 use Rattle.names.specs.NameTexts.{unitAt, pointAt, textFrom, nameText}
 
 -- ---- the units of a character
@@ -90,12 +92,6 @@ module _ (s : List ℕ) (n v : ℕ) where
   store-4 h = rw (four-bytes v h, one-more, two-more, three-more)
 
 -- ---- what a unit stands for: its units are in the name, and its bytes have room
-
-pub between-true : (a x b : ℕ) → between a x b ≡ true → (a ≤ x) × (x ≤ b)
-unfolding between
-between-true a x b e =
-    let p = and-both (leb a x) (leb x b) e in
-    (leb-true a x (p .0), leb-true x b (p .1))
 
 -- a list of at most n
 record Most (n : ℕ) (l : List ℕ) : Type 0 where

@@ -7,7 +7,8 @@ use native.Mathlib.Omega.{arith}
 use borrow.Author.Tests.{lt-ltb, le-ltb, le-leb, lt-leb, eq-eqb, ne-eqb, not-true, not-false}
 use lib.ListN.{length, getD, List·getD-eq-default}
 use Rattle.names.specs.declared.inner.Scalar.{Scalar}
-use Rattle.names.specs.Utf8.{noScalar, replacement, between, surrogate, continues, sizeOf, inRange, ofTwo, ofThree, ofFour, scalarAt, pointOf}
+use Rattle.text.specs.Ranges.{between}
+use Rattle.names.specs.Utf8.{noScalar, replacement, surrogate, continues, sizeOf, inRange, ofTwo, ofThree, ofFour, scalarAt, pointOf}
 use Rattle.names.specs.NameTexts.{unitAt}
 
 -- what the test `!f(..)` says of the definition's

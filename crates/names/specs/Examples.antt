@@ -4,7 +4,8 @@ use mathlib.Core.List.{List, [], _∷_, _++_}
 use Prim.Native.Nat.{ℕ}
 use lib.ListN.{replicate}
 use Rattle.names.specs.declared.NameOfText.{NameOfText}
-use Rattle.names.specs.Utf8.{between, sizeOf, inRange, ofTwo, ofThree, ofFour, scalarAt, unitsOf, utf8Of, pointOf}
+use Rattle.text.specs.Ranges.{between}
+use Rattle.names.specs.Utf8.{sizeOf, inRange, ofTwo, ofThree, ofFour, scalarAt, unitsOf, utf8Of, pointOf}
 use Rattle.names.specs.NameTexts.{refusedName, nameFrom, nameOfText, unitAt, pointAt, textFrom, nameText}
 
 -- a name of these units and of zeros up to 36, which are given too

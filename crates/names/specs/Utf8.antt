@@ -5,6 +5,7 @@ use Prim.Native.Nat.{ℕ, _+_, _*_, _-_, _/_, _%_}
 use lib.Dec.{leb, ltb, eqb}
 use lib.ListN.{length, getD}
 use Rattle.units.specs.Answer.{pick}
+use Rattle.text.specs.Ranges.{between}
 use Rattle.names.specs.declared.inner.Scalar.{Scalar}
 
 -- no scalar value: the bytes at the place are no character
@@ -14,10 +15,6 @@ noScalar = record { size = 0; code = 0 }
 -- what stands for a surrogate that has no partner: U+FFFD, the replacement character, for one unit
 abbrev pub replacement : Scalar
 replacement = record { size = 1; code = 0xFFFD }
-
--- from a first number to a last
-unfoldable pub between : ℕ → ℕ → ℕ → Bool
-between first x last = leb first x && leb x last
 
 abbrev pub surrogate : ℕ → Bool
 surrogate v = between 0xD800 v 0xDFFF

@@ -1,10 +1,11 @@
 // Leaves: one character of UTF-8 or UTF-16, read and written. Each `requires` is a range that its caller has tested. No public calls.
 use crate::NameOfText;
+use text::inner::is_between;
 ghost use mathlib.Core.Path.{_≡_};
 ghost use Prim.Native.Nat.{_+_, _*_, _≤_, _<_};
 ghost use lib.ListN.{length, take};
 ghost use lib.Seq.{sets};
-ghost use Rattle.names.specs.Utf8.{noScalar, replacement, between, sizeOf, inRange, ofTwo, ofThree, ofFour, scalarAt, unitsOf, utf8Of, pointOf};
+ghost use Rattle.names.specs.Utf8.{noScalar, replacement, sizeOf, inRange, ofTwo, ofThree, ofFour, scalarAt, unitsOf, utf8Of, pointOf};
 ghost use Rattle.names.specs.NameTexts.{refusedName, unitAt, pointAt, nameText};
 
 // A scalar value, and how many bytes or units it takes; size 0: there is none.
@@ -17,13 +18,6 @@ pub struct Scalar {
 pub struct Words {
     pub count: usize,
     pub words: [u8; 108],
-}
-
-// Whether a number lies from the first to the last of a range.
-pub fn is_between(first: u32, x: u32, last: u32) -> bool
-    ensures { λ r. ⌜ r ≡ between first x last ⌝ }
-{
-    first <= x && x <= last
 }
 
 pub fn none() -> Scalar

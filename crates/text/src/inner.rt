@@ -4,6 +4,14 @@ ghost use Prim.Native.Nat.{_+_, _≤_, _<_};
 ghost use lib.ListN.{length};
 ghost use lib.Seq.{sets};
 ghost use Rattle.text.specs.Digits.{digitOf, digits};
+ghost use Rattle.text.specs.Ranges.{between};
+
+// Whether a number lies from the first to the last of a range.
+pub fn is_between(first: u32, x: u32, last: u32) -> bool
+    ensures { λ r. ⌜ r ≡ between first x last ⌝ }
+{
+    first <= x && x <= last
+}
 
 // The digit of a value below 16.
 fn digit_of(v: u8) -> u8

@@ -2,7 +2,7 @@
 use mathlib.Core.Path.{_≡_, refl, sym, _∙_}
 use native.Mathlib.Omega.{arith}
 use Rattle.guid_text.specs.Hex.{digitValue}
-use Rattle.guid_text.proofs.Laws.{from-low}
+use Rattle.text.proofs.Laws.{between-true}
 use borrow.Author.Needs.{needs}
 use Rattle.guid_text.proofs.inner.digit_value.Statement.{statement}
 use Rattle.guid_text.proofs.inner.digit_value.Tie as tie
@@ -11,7 +11,7 @@ is-between-requires : tie.Need-is-between-requires
 is-between-requires c κs = search needs
 
 sub-result : tie.Need-sub-result
-sub-result c = omega (arith, from-low 48 57 _ (sym (c .before .is-between .ensures) ∙ c .if1 .taken))
+sub-result c = omega (arith, between-true 48 _ 57 (sym (c .before .is-between .ensures) ∙ c .if1 .taken) .0)
 
 returns : tie.Need-returns
 unfolding digitValue
@@ -21,7 +21,7 @@ is-between-requires-2 : tie.Need-is-between-requires-2
 is-between-requires-2 c κs = search needs
 
 sub-result-2 : tie.Need-sub-result-2
-sub-result-2 c = omega (arith, from-low 65 70 _ (sym (c .before .is-between2 .ensures) ∙ c .if2 .taken))
+sub-result-2 c = omega (arith, between-true 65 _ 70 (sym (c .before .is-between2 .ensures) ∙ c .if2 .taken) .0)
 
 returns-2 : tie.Need-returns-2
 unfolding digitValue
@@ -31,7 +31,7 @@ is-between-requires-3 : tie.Need-is-between-requires-3
 is-between-requires-3 c κs = search needs
 
 sub-result-3 : tie.Need-sub-result-3
-sub-result-3 c = omega (arith, from-low 97 102 _ (sym (c .before .is-between3 .ensures) ∙ c .if3 .taken))
+sub-result-3 c = omega (arith, between-true 97 _ 102 (sym (c .before .is-between3 .ensures) ∙ c .if3 .taken) .0)
 
 returns-3 : tie.Need-returns-3
 unfolding digitValue

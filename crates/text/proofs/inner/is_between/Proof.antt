@@ -1,8 +1,8 @@
--- `names::inner::is_between` meets its contract. Assumes nothing.
-use Rattle.names.specs.Utf8.{between}
+-- `text::inner::is_between` meets its contract. Assumes nothing.
+use Rattle.text.specs.Ranges.{between}
 use Rattle.units.proofs.Laws.{tests}
-use Rattle.names.proofs.inner.is_between.Statement.{statement}
-use Rattle.names.proofs.inner.is_between.Tie as tie
+use Rattle.text.proofs.inner.is_between.Statement.{statement}
+use Rattle.text.proofs.inner.is_between.Tie as tie
 
 returns : tie.Need-returns
 unfolding between
