@@ -79,7 +79,7 @@ def quoted_cases(calls):
 
 
 def place_cases(calls):
-    """What a number does not name is left out of its words; and accepted, and numbers that are none, whatever is beside them."""
+    """A place that a number does not have is left out of its words; and accepted, and numbers that are none, whatever is beside them."""
     for place, slot in itertools.product(PLACES, (0, *SLOTS)):
         yield f"0 with {place} and {slot}", told(calls, 0, place, slot), "accepted"
         for number in NONE:
@@ -91,11 +91,10 @@ def place_cases(calls):
 
 
 def slot_cases(calls):
-    """A slot is said of the numbers whose answers name one, and left out of the words of all others; the slot of 17 is the one that differs."""
+    """A slot that is not 0 is said of every refusal, but beside a table or the disk GUIDs; the slot of 17 is the one that differs."""
     for number, slot in itertools.product(range(1, 41), SLOTS):
         plain = told(calls, number, 0, 0)
-        named = f" (slot {slot})" if number in (18, 22, 23, 25, 34, 35, 36, 37) else ""
-        yield f"{number} with slot {slot}", told(calls, number, 0, slot), f"{plain}{named}"
+        yield f"{number} with slot {slot}", told(calls, number, 0, slot), f"{plain} (slot {slot})"
     for slot in SLOTS:
         yield f"17 of slot {slot}", told(calls, 17, 4, slot), f"refused 17, Disagree: the two tables differ, first in slot {slot}"
         yield f"17 of the disk GUID beside slot {slot}", told(calls, 17, 3, slot), told(calls, 17, 3, 0)

@@ -56,14 +56,14 @@ OF_SLOT = (18, 22, 23, 25, 34, 35, 36, 37)
 
 
 def meaning(number, place, slot):
-    """The meaning of a refusal, with the place or the slot that it names; card.h: "What a number does not name is left out of its words"."""
+    """The meaning of a refusal, with the place or the slot; card.h: a place that the number does not have is left out, a slot that is not 0 is told, but "beside a table or the disk GUIDs"."""
     if number in OF_TABLE and place in (FRONT, BACK):
         return OF_TABLE[number].format("front" if place == FRONT else "back")
     if number == 17 and place == DISK_GUID:
         return "the two tables have different disk GUIDs"
     if number == 17 and place == SLOT:
         return f"the two tables differ, first in slot {slot}"
-    return WORDS[number][1] + (f" (slot {slot})" if slot and number in OF_SLOT else "")
+    return WORDS[number][1] + (f" (slot {slot})" if slot else "")
 
 
 def message(number, place, slot):
