@@ -6,10 +6,12 @@ CFLAGS ?= -O2
 LDFLAGS ?=
 # The log that make gate-times reads.
 LOG ?= target/gate.log
+# The crates whose exports make up the library for C.
+EXPORTS = gpt_c card_c text_c
 # The scripts take these from the environment.
 export CC CFLAGS LDFLAGS PREFIX DESTDIR
 
-.PHONY: help tour versions demo sums test gate-times deps outside programs bench bench-list lib card card-test install uninstall install-test deb dist package-test boundary example lister-test python rust documents interop differential differential-slips scripts-test boundary-valgrind rust-outside race model writers cuts cuts-quick firmware firmware-quick edits clean
+.PHONY: help tour versions demo sums test gate-times deps outside programs bench bench-list lib card card-test install uninstall install-test deb dist package-test boundary guard examples example lister-test python python-types wheel wheel-test rust documents interop differential differential-slips scripts-test boundary-valgrind rust-outside race model corpus writers cuts cuts-quick firmware firmware-quick edits clean
 
 # Two runs of rt in one repository write the same files, so with -j, too, one target is made after the other.
 .NOTPARALLEL:
@@ -60,10 +62,14 @@ programs:
 lib: target/lib/libcard.so.0
 	@echo "target/lib/libcard.a and target/lib/libcard.so; the header is include/card.h"
 
+# The ported calls, the card calls and the text calls are each a crate and an archive of their own, so that none takes long to prove; the objects of all three go into one archive.
 target/lib/libcard.a: crates.txt $(shell find crates -name '*.rt' -o -name '*.antt')
-	@scripts/prove --staticlib card_c
+	@for crate in $(EXPORTS); do scripts/prove --staticlib $$crate || exit 1; done
 	@mkdir -p target/lib
-	cp target/staticlib/libcard_c.a target/lib/libcard.a
+	@rm -rf target/lib/objects && mkdir target/lib/objects && rm -f target/lib/libcard.a
+	@cd target/lib/objects && for crate in $(EXPORTS); do $(AR) x ../../staticlib/lib$$crate.a || exit 1; done
+	$(AR) rcs target/lib/libcard.a target/lib/objects/*.o
+	@rm -r target/lib/objects
 
 # Every symbol is bound when the library is loaded, and what was written for that is then read-only.
 target/lib/libcard.so: target/lib/libcard.a
@@ -99,7 +105,7 @@ uninstall:
 install-test:
 	tests/install/run.sh
 
-# Makes a package for Debian of what install puts in place, and the Python module (target/package). It needs cargo and dpkg-deb.
+# Makes a package for Debian of what install puts in place, and the Python package (target/package). It needs cargo and dpkg-deb.
 deb: lib card
 	@scripts/prove lister
 	@VERSION=$(VERSION) scripts/package deb
@@ -135,6 +141,16 @@ boundary: lib
 	$(CC) -std=c11 -Wall -Wextra $(CFLAGS) -Iinclude -o target/boundary tests/c/boundary.c target/lib/libcard.a $(LDFLAGS)
 	target/boundary
 
+# Makes 200,000 calls over all exports of include/card.h between pages that cannot be touched (tests/c). Variables: SEED, CALLS.
+guard: lib
+	$(CC) -std=c11 -Wall -Wextra -pedantic $(CFLAGS) -Iinclude -o target/guard tests/c/guard.c target/lib/libcard.a $(LDFLAGS)
+	tests/c/exports.sh target/guard names
+	target/guard $(or $(SEED),1) $(or $(CALLS),200000)
+
+# Builds the three pages of examples/c as a user would, by both libraries, and runs them in a row: lay, update, cuts, repair, list (tests/examples).
+examples: lib
+	tests/examples/run.sh
+
 # Compares the stored cards of the gate with those of the independent maker.
 example:
 	@mkdir -p target
@@ -151,11 +167,24 @@ lister-test:
 	@scripts/prove lister free_ground uefi_lister sample sums
 	python3 tests/example/lister.py
 
-# Runs the example in the Python module's own text, and the module's tests (tests/python).
-python: lib
-	python3 hosts/python/card.py
+# Checks the Python package's types, runs the examples in its own text, and its tests (tests/python).
+python: lib python-types
+	PYTHONPATH=hosts/python python3 -m card
 	python3 tests/python/test_card.py
 	python3 tests/python/test_files.py
+
+# Checks the types of the Python package by mypy --strict (hosts/python/pyproject.toml). Where there is no mypy, it says so.
+python-types:
+	@mkdir -p target
+	@if command -v mypy >/dev/null 2>&1; then mypy --config-file hosts/python/pyproject.toml --cache-dir target/mypy hosts/python/card hosts/python/card_wheel.py; else echo "there is no mypy (make deps installs it on Debian)"; echo "python-types: skipped, no type was checked"; fi
+
+# Writes a wheel of the Python package with the shared library in it (target/wheel). pip installs it without a network.
+wheel: lib
+	@VERSION=$(VERSION) python3 hosts/python/card_wheel.py target/wheel
+
+# Installs the wheel into an empty folder, by pip where it is there, and uses it outside the repository (tests/install/wheel.py).
+wheel-test: wheel
+	python3 tests/install/wheel.py
 
 # Runs the tests of the Rust crate and of the example in its text. Cargo asks no registry.
 rust: lib rust-outside
@@ -210,6 +239,10 @@ race: lib
 model: lib
 	python3 tests/model/run.py --alone --seed 1 --cases 75000
 	python3 tests/model/run.py $(if $(SEED),--seed $(SEED)) --seconds $(or $(SECONDS),30)
+
+# Runs 171 images that once showed a defect, or that every reader must survive, through every reader, and compares what each says (tests/corpus).
+corpus: lib
+	python3 tests/corpus/run.py
 
 # Makes the same calls on two files that have one table and other tiles, and compares every answer and both tables (tests/writers). Variables: SEED, CALLS.
 writers: lib

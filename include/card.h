@@ -1,5 +1,5 @@
 /* The card table for C, C++ and whatever else calls C: the card calls (card_..) and the ported calls on GPT headers, entries and the
-   protective MBR (gpt_..). The library is libcard.a or libcard.so, which `make lib` writes to target/lib; it is for x86-64.
+   protective MBR (gpt_..), and calls on text (either). The library is libcard.a or libcard.so, which `make lib` writes to target/lib; it is for x86-64.
 
    Every call takes every number and every image of bytes: it ends, and it accepts or refuses by a number from the table below. A refused
    call changes no byte that was lent to it, and every field of its answer but the number, and the slot or the place that the number names, is zero, but for a map that
@@ -7,7 +7,7 @@
 
    What a caller owes:
    - A lent slice is a pointer and then a length in bytes. The pointer points to so many bytes and is never null, also where the length is 0. A row of
-     64-bit numbers, or of slots, has its length in numbers.
+     64-bit numbers, of slots, or of UTF-16 units has its length in numbers, slots or units.
    - Two slices that are lent to one call do not overlap if the call writes one of them.
    - While a call runs, nobody else writes a slice that is lent to it: no other thread, no other process and no device. A call that only reads
      a slice lets others read it too.
@@ -1163,6 +1163,91 @@ CARD_AT(gpt_signature, bytes, 0);
    2. */
 gpt_signature_read gpt_mbr_read_disk_signature(const uint8_t *img, size_t img_len);
 gpt_stored gpt_mbr_write_disk_signature(uint8_t *img, size_t img_len, gpt_signature signature);
+
+/* ---- text */
+
+/* Two numbers that only the text calls give. at is then the place of the byte, counted from 0, from which on the text is refused. */
+enum card_text_number {
+    CARD_BAD_TEXT = 39, /* the text is no GUID, or no UTF-8, or has a zero in it */
+    CARD_LONG_NAME = 40 /* the name has more than 36 UTF-16 units */
+};
+
+/* Bytes that are always enough for a text and the zero behind it. */
+#define CARD_MESSAGE_SIZE 160
+#define GPT_GUID_TEXT_SIZE 37
+#define GPT_NAME_TEXT_SIZE 109
+
+typedef struct card_version_numbers {
+    uint32_t major;
+    uint32_t minor;
+    uint32_t patch;
+} card_version_numbers;
+CARD_SIZE(card_version_numbers, 12);
+CARD_AT(card_version_numbers, major, 0);
+CARD_AT(card_version_numbers, minor, 4);
+CARD_AT(card_version_numbers, patch, 8);
+
+/* length: of the text that was stored, without the zero behind it. */
+typedef struct card_text {
+    uint32_t number;
+    size_t length;
+} card_text;
+CARD_SIZE(card_text, 16);
+CARD_AT(card_text, number, 0);
+CARD_AT(card_text, length, 8);
+
+typedef struct gpt_guid_of_text {
+    uint32_t number;
+    size_t at;
+    gpt_guid guid;
+} gpt_guid_of_text;
+CARD_SIZE(gpt_guid_of_text, 32);
+CARD_AT(gpt_guid_of_text, number, 0);
+CARD_AT(gpt_guid_of_text, at, 8);
+CARD_AT(gpt_guid_of_text, guid, 16);
+
+typedef struct gpt_name_of_text {
+    uint32_t number;
+    size_t at;
+    uint16_t name[36];
+} gpt_name_of_text;
+CARD_SIZE(gpt_name_of_text, 88);
+CARD_AT(gpt_name_of_text, number, 0);
+CARD_AT(gpt_name_of_text, at, 8);
+CARD_AT(gpt_name_of_text, name, 16);
+
+/* The version of the library that runs, as CARD_VERSION is the one of this header. */
+card_version_numbers card_version(void);
+
+/* The words of a number in an answer, with the place and the slot that it names, as "refused 22, Overlap: a block that another slot has (slot 1)", stored with a zero behind them.
+   number: from an answer; "accepted" is said of 0, and of a number that is in neither table that the library has no such number. place: an enum card_place, or 0; one that the number does
+   not have is left out. slot: the one that the answer names, or differs where place is CARD_PLACE_SLOT, or 0; card_answer_message picks it. A slot that is not 0 is told, but for an accepted
+   call, beside a table or the disk GUIDs, and for a number that the library does not have.
+   2 where out has no room for the words and the zero. */
+card_text card_message(char *out, size_t out_len, uint32_t number, uint32_t place, uint32_t slot);
+
+/* The words of a card call's answer. */
+static inline card_text card_answer_message(char *out, size_t out_len, card_answer answer) {
+    return card_message(out, out_len, answer.number, answer.place, answer.place == CARD_PLACE_SLOT ? answer.differs : answer.slot);
+}
+
+/* The text of a GUID, 36 characters as "ebd0a0a2-b9e5-4433-87c0-68b6b72699c7", stored with a zero behind it.
+   2 where out has no room for both. */
+card_text gpt_guid_to_text(char *out, size_t out_len, gpt_guid guid);
+
+/* The GUID of such a text, with digits of either case. text_len counts no zero behind it; braces and blanks are no part of the form.
+   39: at is the first wrong byte; a text that is too short is wrong where it ends, and one that is too long at 36. */
+gpt_guid_of_text gpt_guid_from_text(const char *text, size_t text_len);
+
+/* A name in UTF-8, stored with a zero behind it: its units before the first zero, at most 36 of those lent; what stands behind the 36th is not looked at. name_len counts units. A surrogate without its
+   partner is told as U+FFFD.
+   2 where out has no room for both. */
+card_text gpt_name_to_utf8(char *out, size_t out_len, const uint16_t *name, size_t name_len);
+
+/* The name of a text in UTF-8, for a gpt_partition: its UTF-16 units, and zeros up to 36. text_len counts no zero behind it; the empty text is the empty name.
+   39: at is the first byte of what is no character of UTF-8 (no overlong form, no surrogate, nothing past U+10FFFF), or of a zero; 40: at is the first byte of the character that does not fit.
+   The text is read from its start: what comes first is said. */
+gpt_name_of_text gpt_name_from_utf8(const char *text, size_t text_len);
 
 #ifdef __cplusplus
 }

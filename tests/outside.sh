@@ -97,10 +97,15 @@ run sums "the check sums of published vectors" x86-64
 run lib "the library for C" x86-64 cc
 run card "the card command, built" x86-64 cargo cc
 run boundary "every call across the boundary to C" x86-64 cc
+run guard "every export between pages that cannot be touched" x86-64 cc
+run examples "the pages of examples/c, built and run" x86-64 cc
 run boundary-valgrind "every call across the boundary, under valgrind" x86-64 cc valgrind
-run python "the Python module's example" x86-64 python3 cc
+run python-types "the Python package's types" python3
+run python "the Python package's examples and tests" x86-64 python3 cc
+run wheel-test "the wheel, installed and used" x86-64 python3 cc
 run race "calls beside a second writer" x86-64 python3 cc
 run model "every call beside a model from the documents" x86-64 python3 cc
+run corpus "images that every reader must survive" x86-64 python3 cc
 run writers "two writers on one card" x86-64 python3 cc
 run cuts-quick "cards cut between stages" x86-64 python3 cc
 run rust "the Rust crate's tests" x86-64 cargo cc

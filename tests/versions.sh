@@ -15,7 +15,8 @@ same hosts/card/Cargo.toml "$(sed -n 's/^version = "\(.*\)"$/\1/p' hosts/card/Ca
 same hosts/card/Cargo.lock "$(sed -n 's/^version = "\(.*\)"$/\1/p' hosts/card/Cargo.lock | sort -u)"
 same hosts/rust/Cargo.lock "$(sed -n 's/^version = "\(.*\)"$/\1/p' hosts/rust/Cargo.lock | sort -u)"
 same hosts/card/card.1 "$(sed -n 's/^\.TH CARD 1 "" "card \(.*\)" .*$/\1/p' hosts/card/card.1)"
-same hosts/python/card.py "$(sed -n 's/^__version__ = "\(.*\)"$/\1/p' hosts/python/card.py)"
+same hosts/python/card/__init__.py "$(sed -n 's/^__version__ = "\(.*\)"$/\1/p' hosts/python/card/__init__.py)"
+same crates/text_c/src/lib.rt "$(sed -n 's/^        \(major\|minor\|patch\): \([0-9]*\),$/\2/p' crates/text_c/src/lib.rt | paste -s -d . -)"
 same CHANGELOG.md "$(sed -n 's/^Version \([0-9.]*\) is .*$/\1/p' CHANGELOG.md)"
-[ "$status" -ne 0 ] || echo "versions: $version in all eight places"
+[ "$status" -ne 0 ] || echo "versions: $version in all nine places"
 exit $status

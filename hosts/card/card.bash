@@ -17,11 +17,11 @@ _card() {
         help) mapfile -t COMPREPLY < <(compgen -W "$commands" -- "$word"); return ;;
         lay) options="--size --guid --force $writes" ;;
         list) options="--json --map" ;;
-        put) options="--first --last --size --type --name --guid --attrs --stop-after $writes" ;;
+        put) options="--first --last --size --type --name --guid --attrs --replace --stop-after $writes" ;;
         clear) options="--wipe --stop-after --progress $writes" ;;
         write) options="--at --progress $writes" ;;
         read) options="--at --length" ;;
-        repair) options="--stop-after $writes" ;;
+        repair) options="--force --stop-after $writes" ;;
         label) options="--date --style --sheet $writes" ;;
         grow) options="$writes" ;;
         apply) options="--size --progress $writes" ;;

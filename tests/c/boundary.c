@@ -1787,7 +1787,110 @@ static void by_windows(void) {
     windows_alone(4096, MOST / 4096);
 }
 
+static const char guid_text[] = "03020100-0504-0706-0809-0a0b0c0d0e0f";
+
+/* A text in lent bytes: exactly as many as it takes, one fewer, none, and more; what stands behind the zero stays. */
+static void stored_text(const char *text, card_text (*call)(char *out, size_t out_len)) {
+    size_t n = strlen(text);
+    char out[256], kept[256];
+    memset(kept, 0x5A, sizeof kept);
+    for (size_t room = 0; room < sizeof out; room++) {
+        memset(out, 0x5A, sizeof out);
+        card_text t = call(out, room);
+        SAME(t.number, room > n ? 0 : CARD_SHORT);
+        SAME(t.length, room > n ? n : 0);
+        if (room > n) BYTES(out, text, n + 1);
+        BYTES(out + (room > n ? n + 1 : 0), kept, sizeof out - (room > n ? n + 1 : 0));
+    }
+}
+
+static card_text guid_told(char *out, size_t out_len) { return gpt_guid_to_text(out, out_len, disk); }
+static const uint16_t ridge[] = {0x41, 0xE9, 0x20AC, 0xD83D, 0xDD25, 0xDC00, 0x7A, 0, 0x7A};
+static card_text name_told(char *out, size_t out_len) { return gpt_name_to_utf8(out, out_len, ridge, 9); }
+static card_text overlap_told(char *out, size_t out_len) { return card_message(out, out_len, CARD_OVERLAP, 0, 4294967295u); }
+static card_text differs_told(char *out, size_t out_len) {
+    return card_answer_message(out, out_len, (card_answer){.number = CARD_DISAGREE, .slot = 0, .place = CARD_PLACE_SLOT, .differs = 128});
+}
+static card_text slot_told(char *out, size_t out_len) {
+    return card_answer_message(out, out_len, (card_answer){.number = CARD_TWIN_GUID, .slot = 7, .place = 0, .differs = 0});
+}
+static card_text none_told(char *out, size_t out_len) { return gpt_name_to_utf8(out, out_len, ridge, 0); }
+
+static void messages(void) {
+    static const char *const said[] = {
+        "refused 4, InvalidGptSignature: the back table's header does not begin with EFI PART", "refused 5, InvalidCRC32Checksum: the back table's header check sum does not match",
+        "refused 6, PartsCrc: the back table's entry check sum does not match", "refused 16, WrongLayout: the back table is not laid out as a card's"};
+    static const uint32_t numbers[] = {4, 5, 6, 16};
+    char out[CARD_MESSAGE_SIZE];
+    for (int i = 0; i < 4; i++) {
+        SAME(card_message(out, sizeof out, numbers[i], CARD_PLACE_BACK, 0).number, 0);
+        SAME(strcmp(out, said[i]), 0);
+    }
+    for (uint64_t number = 0; number <= 4294967295u; number += number < 60 ? 1 : 400000007) {
+        for (uint32_t place = 0; place < 6; place++) SAME(card_message(out, sizeof out, (uint32_t)number, place, 4294967295u).number, 0);
+        if (number > 40) SAME(strcmp(out, "the library has no such number"), 0);
+    }
+    card_message(out, sizeof out, CARD_DISAGREE, CARD_PLACE_DISK_GUID, 0);
+    SAME(strcmp(out, "refused 17, Disagree: the two tables have different disk GUIDs"), 0);
+    card_message(out, sizeof out, 0, 0, 3);
+    SAME(strcmp(out, "accepted"), 0);
+}
+
+static void guid_texts(void) {
+    char upper[] = "03020100-0504-0706-0809-0A0B0C0D0E0F";
+    gpt_guid_of_text g = gpt_guid_from_text(upper, 36);
+    SAME(g.number, 0);
+    SAME(g.at, 0);
+    BYTES(&g.guid, &disk, 16);
+    for (size_t i = 0; i < 36; i++) {
+        char was = upper[i];
+        upper[i] = was == '-' ? '0' : 'g';
+        g = gpt_guid_from_text(upper, 36);
+        SAME(g.number, CARD_BAD_TEXT);
+        SAME(g.at, i);
+        ZEROS(&g.guid, 16);
+        upper[i] = was;
+        SAME(gpt_guid_from_text(upper, i).at, i);
+    }
+    SAME(gpt_guid_from_text(upper, 37).number, CARD_BAD_TEXT);
+    SAME(gpt_guid_from_text(upper, 37).at, 36);
+}
+
+static void name_texts(void) {
+    static const struct { const char *text; size_t n; uint32_t number; size_t at; } cases[] = {
+        {"", 0, 0, 0}, {"a\xC0\x80", 3, 39, 1}, {"\xED\xA0\x80", 3, 39, 0}, {"\xF4\x90\x80\x80", 4, 39, 0}, {"ab\0", 3, 39, 2}, {"\xE2\x82", 2, 39, 0}, {"\x80", 1, 39, 0},
+        {"0123456789012345678901234567890123456", 37, 40, 36}, {"01234567890123456789012345678901234\xF0\x9F\x94\xA5", 39, 40, 35}, {"0123456789012345678901234567890123456\xFF", 38, 40, 36}};
+    for (size_t i = 0; i < sizeof cases / sizeof *cases; i++) {
+        gpt_name_of_text t = gpt_name_from_utf8(cases[i].text, cases[i].n);
+        SAME(t.number, cases[i].number);
+        SAME(t.at, cases[i].at);
+        ZEROS(t.name, 72);
+    }
+    gpt_name_of_text t = gpt_name_from_utf8("A\xC3\xA9\xE2\x82\xAC\xF0\x9F\x94\xA5z", 11);
+    SAME(t.number, 0);
+    BYTES(t.name, ridge, 10);
+    SAME(t.name[5], 0x7A);
+    ZEROS(t.name + 6, 60);
+}
+
+static void texts(void) {
+    card_version_numbers v = card_version();
+    char version[64];
+    snprintf(version, sizeof version, "%u.%u.%u", v.major, v.minor, v.patch);
+    SAME(strcmp(version, CARD_VERSION), 0);
+    stored_text(guid_text, guid_told);
+    stored_text("A\xC3\xA9\xE2\x82\xAC\xF0\x9F\x94\xA5\xEF\xBF\xBDz", name_told);
+    stored_text("", none_told);
+    stored_text("refused 22, Overlap: a block that another slot has (slot 4294967295)", overlap_told);
+    stored_text("refused 17, Disagree: the two tables differ, first in slot 128", differs_told);
+    stored_text("refused 25, TwinGuid: a partition GUID that another used slot has (slot 7)", slot_told);
+    messages();
+    guid_texts();
+    name_texts();
+}
+
 int main(void) {
+    texts();
     cards();
     puts_two();
     twins();

@@ -159,6 +159,14 @@ static void bootcode_write(void) { number = gpt_mbr_write_bootcode(img, LEN, (gp
 static void signature_read(void) { number = gpt_mbr_read_disk_signature(img, LEN).number; }
 static void signature_write(void) { number = gpt_mbr_write_disk_signature(img, LEN, (gpt_signature){{1}}).number; }
 
+static char words[CARD_MESSAGE_SIZE];
+static void version(void) { number = card_version().major; }
+static void message(void) { number = card_message(words, sizeof words, CARD_OVERLAP, 0, 128).number; }
+static void guid_to_text(void) { number = gpt_guid_to_text(words, sizeof words, map.part_type_guid).number; }
+static void guid_from_text(void) { number = gpt_guid_from_text("ebd0a0a2-b9e5-4433-87c0-68b6b72699c7", 36).number; }
+static void name_to_utf8(void) { number = gpt_name_to_utf8(words, sizeof words, (const uint16_t[]){0x6E, 0xD83D, 0xDD25}, 3).number; }
+static void name_from_utf8(void) { number = gpt_name_from_utf8("north \xF0\x9F\x94\xA5", 10).number; }
+
 typedef struct kind {
     const char *name;
     void (*call)(void);
@@ -181,6 +189,7 @@ static const kind kinds[] = {
     KIND(uefi_count_primary), KIND(uefi_count_backup), KIND(uefi_list_primary), KIND(uefi_list_backup),
     KIND(mbr_from_bytes), KIND(mbr_from_image), KIND(mbr_record_read), KIND(mbr_record_bytes), KIND(mbr_bytes), KIND(mbr_record), KIND(mbr_set),
     KIND(mbr_overwrite), KIND(mbr_conservative), KIND(bootcode_read), KIND(bootcode_write), KIND(signature_read), KIND(signature_write),
+    KIND(version), KIND(message), KIND(guid_to_text), KIND(guid_from_text), KIND(name_to_utf8), KIND(name_from_utf8),
 };
 enum { KINDS = sizeof kinds / sizeof kinds[0] };
 
@@ -228,8 +237,8 @@ static size_t painted(const kind *call) {
     return ROOM - left;
 }
 
-int main(int count, char **words) {
-    const bool each = count > 1 && strcmp(words[1], "each") == 0;
+int main(int count, char **arguments) {
+    const bool each = count > 1 && strcmp(arguments[1], "each") == 0;
     static const kind none = KIND(nothing);
     uint8_t *room = mmap(NULL, PAGE + THREAD, PROT_READ | PROT_WRITE, MAP_PRIVATE | MAP_ANONYMOUS, -1, 0);
     must(room != MAP_FAILED && mprotect(room, PAGE, PROT_NONE) == 0, "no memory for a stack");

@@ -65,12 +65,12 @@ def one_table(b):
 
 
 def one_table_wide(b):
-    """The same at 4096, where the advice may name the block size too."""
+    """The same at 4096, where the advice names the block size too."""
     whole = gpt.card(128, 4096, ENTRIES)
     for front, here, there in ((True, "front", "back"), (False, "back", "front")):
         for number, words in WORDS.items():
             b.store("a.img", damaged(whole, 4096, front, number))
-            b.refuses(("check", "a.img", "-b", "4096"), like(f"card: a.img: {here} table: {words}; the {there} is good: card repair {{..}}a.img{{..}} [{number}]\n"))
+            b.refuses(("check", "a.img", "-b", "4096"), like(f"card: a.img: {here} table: {words}; the {there} is good: card repair -b 4096 a.img [{number}]\n"))
 
 
 def wrong_entries(b):

@@ -57,7 +57,7 @@ def draw_put(rng, model):
     number = model.put(slot, first, last, e.guid, e.type)
     if not number:
         model.entries = dict(sorted({**model.entries, slot: e}.items()))
-    return ("put", "a.img", slot, "--first", first, "--last", last, f"--name={e.name}", "--guid", e.guid, "--type", e.type), number, None
+    return ("put", "a.img", slot, "--first", first, "--last", last, f"--name={e.name}", "--guid", e.guid, "--type", e.type, "--replace"), number, None
 
 
 def draw_clear(rng, model):

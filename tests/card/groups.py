@@ -1,4 +1,5 @@
 """The groups by their names, in the order in which they run."""
+import advice
 import apply
 import big
 import check
@@ -13,6 +14,7 @@ import labels
 import lay
 import listing
 import loop
+import over
 import payload
 import put
 import report
@@ -26,7 +28,9 @@ ALL = {
     "usage": usage.run,
     "sizes": usage.run_sizes,
     "lay": lay.run,
+    "over": over.run,
     "check": check.run,
+    "advice": advice.run,
     "list": listing.run,
     "map": listing.run_map,
     "free": listing.run_free,

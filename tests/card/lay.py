@@ -56,10 +56,10 @@ def used_slots(b):
         b.true(f"lay --force, {what}: the bytes", b.bytes("a.img") == gpt.over(image, 512, {}, gpt.guid(99)))
         b.says(("lay", "a.img", "--guid", gpt.DISK), laid("a.img", 128, 512))
     b.store("a.img", whole)
-    b.refuses(("lay", "a.img", "-b", "4096"), like("card: a.img is a card with blocks of 512 bytes and 3 used slots, and laying drops them. Nothing was changed. To lay it anew: card lay --force a.img\n"))
+    b.refuses(("lay", "a.img", "-b", "4096"), like("card: a.img is a card with blocks of 512 bytes and 3 used slots, and laying drops them. Nothing was changed. To lay it anew: card lay --force -b 4096 a.img\n"))
     b.says(("lay", "a.img", "-b", "4096", "--guid", gpt.DISK, "--force"), laid("a.img", 16, 4096))
     b.store("a.img", gpt.card(128, 4096, {1: gpt.Entry(6, 7, "x", gpt.guid(1))}))
-    b.refuses(("lay", "a.img", "-b", "4096"), like("card: a.img is a card with 1 used slot{..}, and laying drops {..}. Nothing was changed. To lay it anew: card lay --force {..}a.img\n"))
+    b.refuses(("lay", "a.img", "-b", "4096"), like("card: a.img is a card with 1 used slot{..}, and laying drops {..}. Nothing was changed. To lay it anew: card lay --force -b 4096 a.img\n"))
 
 
 def too_short(b):

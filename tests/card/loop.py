@@ -136,7 +136,8 @@ def whole_mounted(b):
             b.refuses(("lay", device), f"card: {device} is mounted at {b.path('mnt')}. Nothing was changed. Unmount it, or say --mounted", files=())
         finally:
             subprocess.run(["umount", b.path("mnt")])
-        b.equal("lay once it is unmounted", b.run("lay", device).status, 0)
+        b.refuses(("lay", device), f"card: {device} has an ext2, ext3 or ext4 file system, and laying writes over it. Nothing was changed. To lay it anew: card lay --force {device}", files=())
+        b.equal("lay --force once it is unmounted", b.run("lay", device, "--force").status, 0)
     finally:
         subprocess.run(["losetup", "-d", device])
 

@@ -5,8 +5,15 @@ from bench import like
 ONE = {1: gpt.Entry(34, 65, "north ridge", gpt.guid(1))}
 
 
-def line(slot, e, size=512):
-    return f'slot {slot} put: blocks {e.first} to {e.last} ({gpt.words((e.last - e.first + 1) * size)}), type {gpt.type_word(e.type)}, GUID {e.guid}, {gpt.row(slot, e, size)[7]}\n'
+def line(slot, e, size=512, before=None):
+    held = f"; it held {holding(before, size)}" if before else ""
+    return f'slot {slot} put: blocks {e.first} to {e.last} ({gpt.words((e.last - e.first + 1) * size)}), type {gpt.type_word(e.type)}, GUID {e.guid}, {gpt.row(slot, e, size)[7]}{held}\n'
+
+
+def holding(e, size=512):
+    """What a slot holds, in the words of a put over it."""
+    kind = "" if e.type == gpt.TYPES["data"] else f", type {gpt.type_word(e.type)}"
+    return f"{gpt.row(1, e, size)[7]}, blocks {e.first} to {e.last} ({gpt.words((e.last - e.first + 1) * size)}){kind}"
 
 
 def words(slot, e):
@@ -22,8 +29,9 @@ def puts(b):
         for slot, e in ((1, gpt.Entry(first, first + 9, "north ridge", gpt.guid(1))), (128, gpt.Entry(last, last, "end", gpt.guid(128))),
                         (4, gpt.Entry(first + 10, last - 1, "x" * 36, gpt.guid(4), gpt.TYPES["swap"])), (4, gpt.Entry(first + 12, first + 12, "😀" * 18, gpt.guid(4))),
                         (1, gpt.Entry(first, first, 'a "b" \\', gpt.guid(1)))):
+            before = entries.get(slot)
             entries[slot] = e
-            b.says((*words(slot, e), "-b", size), line(slot, e, size))
+            b.says((*words(slot, e), "-b", size, *(("--replace",) if before else ())), line(slot, e, size, before))
             b.true(f"put {slot}: the bytes", b.bytes("a.img") == gpt.over(gpt.card(blocks, size, fill=0xA5, after=3), size, entries))
     b.store("a.img", gpt.card(128))
     b.says(("put", "a.img", "2", "--first", "40", "--last", "40"), like('slot 2 put: blocks 40 to 40 (512 B), type data, GUID {guid}{..}\n'))
@@ -31,6 +39,33 @@ def puts(b):
     made = gpt.slots(b.bytes("a.img"), 512)
     b.equal("puts without a name", [e.name for e in made.values()], ["", ""])
     b.true("each put draws another GUID", len({e.guid for e in made.values()}) == 2, made)
+
+
+def over(b):
+    """A used slot keeps its blocks, or is replaced by --replace alone; what it held is said."""
+    other = "21686148-6449-6e6f-744e-656564454649"
+    for size, given in ((512, ()), (4096, ("-b", "4096"))):
+        for kind in ("data", "linux", other):
+            held = gpt.Entry(40, 49, 'last "year"', gpt.guid(1), gpt.TYPES.get(kind, kind))
+            image = gpt.card(128, size, {1: held, 2: gpt.Entry(60, 61, "x", gpt.guid(2))})
+            for first, last, keeps in ((40, 49, True), (40, 59, True), (40, 48, False), (41, 49, False), (39, 49, False), (39, 60, False), (62, 80, False), (62, 62, False)):
+                e = gpt.Entry(first, last, "new", gpt.guid(9))
+                b.store("a.img", image)
+                if not keeps:
+                    b.refuses((*words(1, e), *given), f"card: slot 1 not put: it holds {holding(held, size)}, and would not keep them. Nothing was changed. Say --replace to put it all the same, or next for a slot that is free")
+                if last == 60:
+                    b.refuses((*words(1, e), *given, "--replace"), 'card: slot 1 not put: blocks 39 to 60 overlap slot 2 "x" (60 to 61). Nothing was changed. [22]')
+                    continue
+                replace = () if keeps else ("--replace",)
+                dry = b.run(*words(1, e), *given, *replace, "--dry-run")
+                b.equal("put over a used slot --dry-run: its first line", dry.out.splitlines()[:1], [f"slot 1 holds {holding(held, size)}: it would be replaced"])
+                b.says((*words(1, e), *given, *replace), line(1, e, size, held))
+                b.true(f"put over a used slot, blocks {first} to {last}: the bytes", b.bytes("a.img") == gpt.card(128, size, {1: e, 2: gpt.Entry(60, 61, "x", gpt.guid(2))}))
+    b.store("a.img", gpt.card(128, entries=ONE))
+    b.refuses(("put", "a.img", "1", "--size", "1K"), f"card: slot 1 not put: it holds {holding(ONE[1])}, and would not keep them. Nothing was changed. Say --replace to put it all the same, or next for a slot that is free")
+    for slot, first in (("next", 66), ("7", 67)):
+        e = gpt.Entry(first, first, "n", gpt.guid(first))
+        b.says((*words(slot, e), "--replace"), line(2 if slot == "next" else 7, e))
 
 
 def next_slot(b):
@@ -114,6 +149,7 @@ def clears(b):
 
 def run(b):
     puts(b)
+    over(b)
     next_slot(b)
     by_size(b)
     refusals(b)

@@ -50,7 +50,8 @@ def update(b, size, words, line, old, new, slot):
 def updates(b):
     for size in (512, 4096):
         line = f'slot 1 put: blocks 34 to 37 ({gpt.words(4 * size)}), type data, GUID {gpt.guid(1)}, "map 15 Nov"\n'
-        update(b, size, PUT, line, OLD, NEW, 1)
+        held = f'; it held "map 14 Nov", blocks 34 to 37 ({gpt.words(4 * size)})\n'
+        update(b, size, PUT, line.replace("\n", held), OLD, NEW, 1)
         update(b, size, PUT, line, LAID, {1: NEW[1], **LAID}, 1)
         clear = "slot 6 cleared: its entry is gone from both tables, its bytes (blocks 38 to 39) are still on the card\n"
         update(b, size, ("clear", "a.img", "6"), clear, OLD, {1: OLD[1]}, 6)

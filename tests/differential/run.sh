@@ -15,8 +15,8 @@ skipped() {
 cd "$root"
 if command -v rt >/dev/null 2>&1; then
     said=$(make -s lib 2>&1 </dev/null) || { echo "$said"; exit 1; }
-elif [ ! -f target/staticlib/libcard_c.a ]; then
-    echo "differential: rt is missing, so there is no target/staticlib/libcard_c.a" >&2
+elif [ ! -f target/lib/libcard.a ]; then
+    echo "differential: rt is missing, so there is no target/lib/libcard.a" >&2
     skipped
 fi
 cd "$here"

@@ -11,6 +11,7 @@ prefix="/the card"
 there=$stage$prefix
 want='used 1, then refused 22 by slot 1'
 files="include/card.h lib/libcard.a lib/libcard.so lib/libcard.so.0 lib/pkgconfig/card.pc bin/card-lister share/doc/card/LICENSE share/doc/card/NOTICE"
+for name in README.md card_file.h lay.c update.c list.c; do files="$files share/doc/card/examples/$name"; done
 command="the card command, "
 if command -v cargo >/dev/null 2>&1; then
     files="$files bin/card share/man/man1/card.1 share/bash-completion/completions/card"

@@ -9,6 +9,7 @@ import maps
 import model
 import screens
 import states
+import text_draws
 from draws import BAD_BLOCK_SIZES, ENTRY_SIZES, SLOTS
 from entries import Flags, record_from
 from sums import FRESH, crc32
@@ -414,4 +415,5 @@ LOOSE = {
     "gpt_mbr_to_bytes": lambda draw, b: (draw.mbr(),),
     "gpt_mbr_record": lambda draw, b: (draw.mbr(), draw.pick((0, 1, 2, 3, 4, 5, 2**32, 2**63, 2**64 - 1))),
     "gpt_mbr_set_record": lambda draw, b: (draw.mbr(), draw.pick((0, 1, 2, 3, 4, 2**32, 2**64 - 1)), draw.mbr_record()),
+    **text_draws.CALLS,
 }

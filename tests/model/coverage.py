@@ -3,6 +3,8 @@ documents."""
 
 from collections import Counter
 
+import utf
+
 CHECK = {0, 1, 8, 10, 4, 5, 16, 6, 17}
 UEFI_PRIMARY = {0, 1, 2, 4, 29, 5, 30, 31}
 UEFI_BACKUP = {0, 1, 8, 4, 29, 5, 30, 31}
@@ -120,6 +122,12 @@ NUMBERS = {
     "gpt_mbr_write_bootcode": {0, 2},
     "gpt_mbr_read_disk_signature": {0, 2},
     "gpt_mbr_write_disk_signature": {0, 2},
+    "card_version": {0},
+    "card_message": {0, 2},
+    "gpt_guid_to_text": {0, 2},
+    "gpt_guid_from_text": {0, 39},
+    "gpt_name_to_utf8": {0, 2},
+    "gpt_name_from_utf8": {0, 39, 40},
 }
 CHECKED = {name for name, numbers in NUMBERS.items() if CHECK <= numbers}
 WINDOWED = {name for name, numbers in NUMBERS.items() if 32 in numbers}
@@ -160,6 +168,10 @@ BUILDS = {(3, "count times size"), (10, "backup too early"), (10, "first above l
 LENGTHS = {(32, "head"), (32, "tail")}
 NO_DATES = {(36, "month"), (36, "day")}
 TWO_DATES = {(37, "date"), (37, "style revision")}
+NO_GUIDS = {(39, step) for step in ("digit", "dash", "short", "long")}
+# Why a text is no UTF-8, and what the character is that does not fit: of one unit, or of two with room for none or for one.
+NO_UTF8 = {(39, step) for step in ("first byte", "later byte", "cut", "zero", *utf.LEFT_OUT.values())}
+NO_FIT = {(40, step) for step in ("unit", "pair", "half of a pair")}
 STEPS = {name: LENGTHS for name in WINDOWED} | {
     "card_read_label": NO_DATES,
     "card_write_label": NO_DATES,
@@ -188,16 +200,18 @@ STEPS = {name: LENGTHS for name in WINDOWED} | {
     "gpt_uefi_count_partitions": {(7, "above 4,096"), (7, "up to 4,096")},
     "gpt_write_entry": PRODUCTS,
     "gpt_write_zero_entries": PRODUCTS | {(3, "zeroed length")},
+    "gpt_guid_from_text": NO_GUIDS,
+    "gpt_name_from_utf8": NO_UTF8 | NO_FIT,
 }
 
 
 class Coverage:
-    """Counts of what the model answered."""
+    """Counts of what the model answered to some calls, or to all."""
 
-    def __init__(self):
-        self.numbers = {name: Counter() for name in NUMBERS}
-        self.steps = {name: Counter() for name in NUMBERS}
-        self.places = {name: Counter() for name in NUMBERS}
+    def __init__(self, names=NUMBERS):
+        self.numbers = {name: Counter() for name in names}
+        self.steps = {name: Counter() for name in names}
+        self.places = {name: Counter() for name in names}
 
     def saw(self, name, number, step, where):
         """One compared call."""
@@ -219,13 +233,13 @@ class Coverage:
 
     def missing(self):
         """What must be seen and was not, and any number that a call may not give."""
-        for name, due in NUMBERS.items():
-            for number in sorted(due - set(self.numbers[name])):
+        for name, seen in self.numbers.items():
+            for number in sorted(NUMBERS[name] - set(seen)):
                 yield f"{name}: {number} was never seen"
-            for number in sorted(set(self.numbers[name]) - due):
+            for number in sorted(set(seen) - NUMBERS[name]):
                 yield f"{name}: {number} is not one of its numbers"
-        for name, due in STEPS.items():
-            for number, step in sorted(due - set(self.steps[name])):
+        for name, seen in self.steps.items():
+            for number, step in sorted(STEPS.get(name, set()) - set(seen)):
                 yield f"{name}: {number} ({step}) was never seen"
         for name, seen in self.places.items():
             due = PLACES if name in CHECKED else set()

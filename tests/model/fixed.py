@@ -13,12 +13,14 @@ import fixed_places
 import fixed_reader
 import fixed_repair
 import fixed_states
+import fixed_texts
 import fixed_twins
 import fixed_uefi
 import fixed_update
 import fixed_window_labels
 import fixed_window_stages
 import fixed_windows
+import fixed_words
 import ground
 import headers
 import mbr
@@ -116,8 +118,9 @@ def card_cases(calls):
 PULLED = (*fixed_reader.GROUPS, *fixed_update.GROUPS, *fixed_states.GROUPS, *fixed_repair.GROUPS)
 WINDOWS = (*fixed_windows.GROUPS, *fixed_window_stages.GROUPS, *fixed_window_labels.GROUPS)
 SLOTS = (*fixed_twins.GROUPS, *fixed_flags.GROUPS, *fixed_places.GROUPS, fixed_ground.ground_cases, fixed_maps.map_cases, *fixed_labels.GROUPS)
+TEXTS = (*fixed_texts.GROUPS, *fixed_words.GROUPS)
 ON_CARDS = (card_cases, *SLOTS, *PULLED)
-GROUPS = (built_fields, small_cases, running_cases, *ON_CARDS, *fixed_uefi.GROUPS, *fixed_payload.GROUPS, *WINDOWS)
+GROUPS = (built_fields, small_cases, running_cases, *ON_CARDS, *fixed_uefi.GROUPS, *fixed_payload.GROUPS, *WINDOWS, *TEXTS)
 
 
 def wrong_in(groups, calls, before=""):

@@ -18,7 +18,8 @@ GUARD = b"\xa5" * 32
 LENT = "a lent slice: a pointer, then a length"
 ROW_LENT = "a lent row of 64-bit numbers: a pointer, then a count"
 LIST_LENT = "a lent list of 32-bit numbers: a pointer, then a count"
-LENT_KINDS = {LENT: (c_uint8, 1), ROW_LENT: (c_uint64, 8), LIST_LENT: (c_uint32, 4)}
+UNITS_LENT = "a lent row of 16-bit units: a pointer, then a count"
+LENT_KINDS = {LENT: (c_uint8, 1), ROW_LENT: (c_uint64, 8), LIST_LENT: (c_uint32, 4), UNITS_LENT: (c_uint16, 2)}
 SHAPES = {}
 
 
@@ -335,6 +336,20 @@ DECLARED |= {
     "card_judge": (JUDGED, LENT, c_uint64, LIST_LENT),
     "card_window_read_label": (LABEL_READ, *WINDOWS, c_uint32, LENT),
     "card_window_judge": (JUDGED, *WINDOWS, LIST_LENT, LENT),
+}
+
+# All that card.h says of text. A char is a byte.
+VERSION = structure("card_version_numbers", 12, fields_of(c_uint32, "major", "minor", "patch"))
+TEXT = answer("card_text", 16, ("length", c_size_t, 8))
+GUID_OF_TEXT = answer("gpt_guid_of_text", 32, ("at", c_size_t, 8), ("guid", GUID, 16))
+NAME_OF_TEXT = answer("gpt_name_of_text", 88, ("at", c_size_t, 8), ("name", c_uint16 * 36, 16))
+DECLARED |= {
+    "card_version": (VERSION,),
+    "card_message": (TEXT, LENT, c_uint32, c_uint32, c_uint32),
+    "gpt_guid_to_text": (TEXT, LENT, GUID),
+    "gpt_guid_from_text": (GUID_OF_TEXT, LENT),
+    "gpt_name_to_utf8": (TEXT, LENT, UNITS_LENT),
+    "gpt_name_from_utf8": (NAME_OF_TEXT, LENT),
 }
 
 

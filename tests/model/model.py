@@ -12,8 +12,9 @@ import payload
 import reader
 import stages
 import sums
+import texts
 import uefi
 import windows
 
-PARTS = (card, ground, maps, stages, reader, payload, windows, labels, sums, headers, builder, entries, uefi, mbr)
+PARTS = (card, ground, maps, stages, reader, payload, windows, labels, sums, headers, builder, entries, uefi, mbr, texts)
 CALLS = {name: function for part in PARTS for name, function in vars(part).items() if hasattr(function, "lent")}

@@ -9,6 +9,7 @@ import images
 import maps
 import pulled
 import states
+import text_draws
 import wide
 from entries import record_bytes
 from units import NIL
@@ -89,6 +90,14 @@ def ask_checked(rounds, steps, image, b):
         rounds.judge(steps + hurt, image, name, drawn)
 
 
+def ask_texts(rounds, b):
+    """Each text call, and what UTF-8 leaves out of its tables."""
+    for name, arguments in text_draws.CALLS.items():
+        rounds.judge([], None, name, arguments(rounds.draw, b))
+    for text in text_draws.left_out_texts(rounds.draw):
+        rounds.judge([], None, "gpt_name_from_utf8", (text,))
+
+
 def ask(rounds, steps, image, b):
     """All of this; the card check's places on an image twice."""
     for _ in range(2):
@@ -96,3 +105,4 @@ def ask(rounds, steps, image, b):
     ask_twins(rounds, b)
     ask_ends(rounds, b)
     ask_short(rounds, b)
+    ask_texts(rounds, b)

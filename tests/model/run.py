@@ -43,12 +43,13 @@ class Finished(Exception):
 class Rounds:
     """Images and calls on them, drawn from one seed, until the time or the number of calls is used up."""
 
-    def __init__(self, calls, seed, seconds, count):
+    def __init__(self, calls, seed, seconds, count, only=()):
         self.calls = calls
         self.draw = Draw(seed)
         self.end = None if count else time.monotonic() + seconds
         self.count = count
-        self.seen = coverage.Coverage()
+        self.only = only
+        self.seen = coverage.Coverage(only or coverage.NUMBERS)
         self.compared = 0
 
     def judge(self, steps, image, name, args):
@@ -97,7 +98,7 @@ class Rounds:
 
     def ask_loose(self, b, how_many):
         """Some calls that take no image."""
-        names = list(cases.LOOSE)
+        names = self.only or list(cases.LOOSE)
         for _ in range(how_many):
             name = self.draw.pick(names)
             self.judge([], None, name, cases.LOOSE[name](self.draw, b))
@@ -172,13 +173,15 @@ class Rounds:
         rare.ask(self, steps, image, b)
         for _ in range(4):
             self.ask_foreign(steps, image, b)
-        self.ask_loose(b, 38)
+        self.ask_loose(b, 50)
         self.ask_cut()
 
     def run(self):
-        """Rounds until the end, a full table now and then."""
+        """Rounds until the end, a full table now and then; or some calls that take no image, and nothing else."""
         rounds = 0
         try:
+            while self.only:
+                self.ask_loose(self.draw.pick((512, 4096)), 50)
             while True:
                 if rounds % 25 == 3:
                     self.full_table(self.draw.pick((512, 4096)))
@@ -195,6 +198,7 @@ def options():
     parser.add_argument("--seconds", type=float, default=30, help="how long to run")
     parser.add_argument("--cases", type=int, default=0, help="how many calls to compare, in place of a time")
     parser.add_argument("--library", default=str(BUILT), help="the library to try")
+    parser.add_argument("--only", nargs="+", default=(), choices=sorted(cases.LOOSE), metavar="CALL", help="compare these calls alone, which take no image, and try no known answers")
     parser.add_argument("--alone", action="store_true", help="try the model by itself, without a library")
     return parser.parse_args()
 
@@ -221,9 +225,9 @@ def main():
         print(f"there is no library at {given.library}: make lib builds it")
         return 1
     calls = model.CALLS if given.alone else library.load(given.library)
-    if not fixed_cases(calls):
+    if not given.only and not fixed_cases(calls):
         return 1
-    rounds = Rounds(calls, seed, given.seconds, given.cases)
+    rounds = Rounds(calls, seed, given.seconds, given.cases, given.only)
     try:
         rounds.run()
     except Difference as difference:

@@ -1,11 +1,14 @@
-"""The Python module beside what it promises: which buffers it takes, what it refuses before the library is called, that a refused call changes no byte,
+"""The Python package beside what it promises: its names and types, which buffers it takes, what it refuses before the library is called, that a refused call changes no byte,
 that nothing large is copied, what a cut between the stages leaves, and where it finds the library. It ends with "python: N tests ok", or with exit status 1.
 """
 import array
+import ast
 import concurrent.futures
 import contextlib
 import copy
 import ctypes
+import dataclasses
+import inspect
 import mmap
 import os
 import pathlib
@@ -17,6 +20,7 @@ import struct
 import subprocess
 import sys
 import tempfile
+import traceback
 import tracemalloc
 import unittest
 import unittest.mock
@@ -24,10 +28,17 @@ import uuid
 import zlib
 
 ROOT = pathlib.Path(__file__).resolve().parent.parent.parent
-MODULE = ROOT / "hosts" / "python" / "card.py"
+MODULE = ROOT / "hosts" / "python" / "card"
 sys.path.insert(0, str(MODULE.parent))
 sys.dont_write_bytecode = True
-import card  # noqa: E402 (the module is found by the lines above)
+import card  # noqa: E402 (the package is found by the lines above)
+import card._library as library  # noqa: E402
+import card._structs as structs  # noqa: E402
+
+# The public names of the module when it was one file, and what it said of itself by them. None may be lost.
+NAMES = """BACK BASIC_DATA Card DISK_GUID Dated Entry FRESH FRONT Flags Header Label NOWHERE NUMBERS RUNS Record Refused Repair SLOT SlotMap Update check clear clear_mapped clear_staged crc32_next free_runs judge lay listing
+next_repair next_stage payload_place put put_lowest put_mapped put_staged read_label read_payload reader_copy reader_listing repair_staged replace slot_map start_clear start_put start_repair uefi_header uefi_listing write_label
+write_payload""".split()
 
 DISK = uuid.UUID("5a3f1c20-11e7-4b6d-9c04-0242ac110000")
 LARGE = 16 << 20
@@ -87,6 +98,48 @@ def refuse_in_a_process():
 
 def collide_in_a_process():
     card.put(filled(), 512, 1, record(41, 41))
+
+
+class Names(unittest.TestCase):
+    def test_no_public_name_is_lost(self):
+        self.assertEqual([name for name in NAMES if not hasattr(card, name)], [])
+        self.assertLessEqual(set(NAMES), set(card.__all__))
+        every = {}
+        exec("from card import *", every)
+        self.assertEqual(set(every) - {"__builtins__"}, set(card.__all__))
+
+    def test_each_is_called_by_the_package_s_name(self):
+        for name in card.__all__:
+            value = getattr(card, name)
+            if callable(value) and name not in ("Buffer", "WritableBuffer", "replace"):
+                self.assertEqual((value.__module__, pickle.loads(pickle.dumps(value))), ("card", value))
+        with self.assertRaises(card.Refused) as refused:
+            card.check(b"", 512)
+        self.assertEqual(traceback.format_exception_only(card.Refused, refused.exception), ["card.Refused: refused 8, ToSmallForBackup: the image is shorter than three blocks\n"])
+
+    def test_fields_and_parameters_have_types(self):
+        for name in card.__all__:
+            value = getattr(card, name)
+            if dataclasses.is_dataclass(value):
+                self.assertEqual([field.name for field in dataclasses.fields(value) if field.type in (None, "tuple")], [], name)
+                self.assertRaises(dataclasses.FrozenInstanceError, setattr, value.__new__(value), dataclasses.fields(value)[0].name, 0)
+            elif inspect.isfunction(value) and value.__module__ == "card":
+                signature = inspect.signature(value, **({"eval_str": True} if sys.version_info >= (3, 10) else {}))
+                self.assertNotIn(inspect.Signature.empty, [signature.return_annotation, *(each.annotation for each in signature.parameters.values())], name)
+        self.assertTrue((MODULE / "py.typed").exists())
+
+    def test_a_struct_s_types_name_its_fields(self):
+        for struct_ in vars(structs).values():
+            if inspect.isclass(struct_) and issubclass(struct_, ctypes.Structure) and struct_ is not ctypes.Structure and struct_ is not structs.Held:
+                self.assertEqual(list(struct_.__annotations__), [field[0] for field in struct_._fields_], struct_)
+
+    def test_the_text_is_of_python_3_8(self):
+        for path in MODULE.glob("*.py"):
+            ast.parse(path.read_text(), str(path), feature_version=(3, 8))
+
+    def test_the_examples_are_run(self):
+        done = subprocess.run([sys.executable, "-m", "card"], env={**os.environ, "PYTHONPATH": str(MODULE.parent)}, capture_output=True, text=True, timeout=600)
+        self.assertRegex(done.stdout, r"^card: [1-9]\d* examples, 0 failed\n$")
 
 
 class Buffers(unittest.TestCase):
@@ -162,6 +215,19 @@ class ReadOnly(unittest.TestCase):
         for data in (image, memoryview(image), memoryview(bytearray(image)).toreadonly()):
             card.check(data, 512)
             self.assertEqual(card.listing(data, 512), [card.Entry(3, record(40, 41))])
+
+    def test_one_slot_the_count_and_the_disk_guid(self):
+        image = bytes(filled())
+        self.assertEqual((card.get(image, 512, 3), card.get(image, 512, 4), card.count(image, 512), card.disk_guid(image, 512)), (record(40, 41), None, 1, DISK))
+        self.assertEqual((card.reader_get(image, 512, 3), card.reader_get(image, 512, 128)), (record(40, 41), None))
+        pulled = bytearray(image)
+        pulled[512] ^= 1
+        self.assertEqual(card.reader_get(pulled, 512, 3), record(40, 41))
+        for call, number in ((lambda: card.get(image, 512, 0), 18), (lambda: card.reader_get(image, 512, 129), 18), (lambda: card.reader_get(bytes(len(image)), 512, 1), 27), (lambda: card.get(pulled, 512, 3), 4),
+                             (lambda: card.count(pulled, 512), 4), (lambda: card.disk_guid(pulled, 512), 4), (lambda: card.disk_guid(image, 513), 1)):
+            with self.assertRaises(card.Refused) as refused:
+                call()
+            self.assertEqual(refused.exception.number, number)
 
     def test_free_ground_is_ranges_of_blocks(self):
         image = filled()
@@ -722,6 +788,11 @@ class Refusals(unittest.TestCase):
             for again in [pickle.loads(pickle.dumps(refusal, protocol)) for protocol in range(pickle.HIGHEST_PROTOCOL + 1)] + [copy.copy(refusal)]:
                 self.assertEqual((type(again), again.number, again.slot, again.name, str(again)), (card.Refused, refusal.number, refusal.slot, refusal.name, str(refusal)))
 
+    def test_what_is_noted_on_a_refusal_is_kept(self):
+        refusal = card.Refused(22, 7)
+        refusal.at_bench = 3
+        self.assertEqual([pickle.loads(pickle.dumps(refusal)).at_bench, copy.copy(refusal).at_bench], [3, 3])
+
     def test_a_refusal_comes_from_another_process(self):
         with concurrent.futures.ProcessPoolExecutor(1) as pool:
             for call, number, slot in ((refuse_in_a_process, 10, 0), (collide_in_a_process, 22, 3)):
@@ -730,7 +801,8 @@ class Refusals(unittest.TestCase):
                 self.assertEqual((failure.number, failure.slot), (number, slot))
 
     def test_the_words_are_those_of_the_header(self):
-        header = (ROOT / "include" / "card.h").read_text()
+        # The enum behind it has the two numbers of the text calls, which this package does not make.
+        header = (ROOT / "include" / "card.h").read_text().split("enum card_text_number")[0]
         stated = re.findall(r"^    CARD_(\w+) = (\d+),? +/\* (.*?)(?:; .*)? \*/$", header, re.M)
         self.assertEqual([int(number) for _, number, _ in stated], [0, *card.NUMBERS])
         for name, number, meaning in stated[1:]:
@@ -746,20 +818,19 @@ class Library(unittest.TestCase):
 
     def run_python(self, code, *flags, module=MODULE.parent, **more):
         kept = {name: value for name, value in os.environ.items() if name not in ("CARD_LIBRARY", "LD_LIBRARY_PATH", "PYTHONPATH")}
-        return subprocess.run([sys.executable, *flags, "-c", code], env={**kept, "PYTHONPATH": str(module), **more}, capture_output=True, text=True, timeout=60)
+        return subprocess.run([sys.executable, *flags, "-c", code], env={**kept, "PYTHONPATH": str(module), **more}, capture_output=True, text=True, timeout=300)
 
     def finds(self, module, place, **more):
-        """A copy of the module in a folder finds the library at a place where it is called libcard.so.0."""
-        (self.folder / module).mkdir(parents=True)
+        """A copy of the package in a folder finds the library at a place where it is called libcard.so.0."""
+        shutil.copytree(MODULE, self.folder / module / "card")
         (self.folder / place).mkdir(parents=True, exist_ok=True)
-        shutil.copy(MODULE, self.folder / module)
-        shutil.copy(card._lib._name, self.folder / place / "libcard.so.0")
+        shutil.copy(library.lib._name, self.folder / place / "libcard.so.0")
         used = "import card; print([line.split()[-1] for line in open('/proc/self/maps') if 'libcard' in line][0])"
         done = self.run_python(used, module=self.folder / module, **more)
         self.assertEqual((done.stdout.strip(), done.stderr), (str((self.folder / place / "libcard.so.0").resolve()), ""))
 
-    def test_it_is_found_beside_the_module(self):
-        self.finds("a", "a")
+    def test_it_is_found_beside_the_package_s_files(self):
+        self.finds("a", "a/card")
 
     def test_it_is_found_in_the_repository(self):
         self.finds("hosts/python", "target/lib")
@@ -768,8 +839,8 @@ class Library(unittest.TestCase):
         self.finds("a", "b", LD_LIBRARY_PATH=str(self.folder / "b"))
 
     def test_the_named_one_is_taken(self):
-        shutil.copy(card._lib._name, self.folder / "other.so")
-        done = self.run_python("import card; print(card._lib._name)", CARD_LIBRARY=str(self.folder / "other.so"))
+        shutil.copy(library.lib._name, self.folder / "other.so")
+        done = self.run_python("import card._library; print(card._library.lib._name)", CARD_LIBRARY=str(self.folder / "other.so"))
         self.assertEqual((done.stdout.strip(), done.stderr), (str(self.folder / "other.so"), ""))
 
     def test_a_named_one_that_is_missing_is_an_error(self):
@@ -779,20 +850,19 @@ class Library(unittest.TestCase):
         self.assertRegex(done.stderr.splitlines()[-1], "^FileNotFoundError: .*CARD_LIBRARY.*" + re.escape(missing))
 
     def test_a_library_that_is_nowhere_is_an_error_that_says_where_it_was_looked_for(self):
-        (self.folder / "a").mkdir()
-        shutil.copy(MODULE, self.folder / "a")
+        shutil.copytree(MODULE, self.folder / "a" / "card")
         done = self.run_python("import ctypes\ndef none(name): raise OSError('no ' + name)\nctypes.PyDLL = ctypes.CDLL = none\nimport card", module=self.folder / "a")
         self.assertRegex(done.stderr.splitlines()[-1], "^OSError: .*CARD_LIBRARY can name it: no libcard.so.0; no libcard.so$")
 
     def test_layouts_are_compared_also_without_assertions(self):
-        forged = "import ctypes\nreal = ctypes.sizeof\nctypes.sizeof = lambda t: 137 if getattr(t, '__name__', '') == '_Row' else real(t)\nimport card"
+        forged = "import ctypes\nreal = ctypes.sizeof\nctypes.sizeof = lambda t: 137 if getattr(t, '__name__', '') == 'Row' else real(t)\nimport card"
         for flags in ([], ["-O"]):
             done = self.run_python(forged, *flags)
             self.assertEqual(done.returncode, 1, flags)
-            self.assertRegex(done.stderr.splitlines()[-1], "^ImportError: _Row has 137 bytes here, and not 136")
+            self.assertRegex(done.stderr.splitlines()[-1], "^ImportError: Row has 137 bytes here, and not 136")
 
     def test_the_lock_of_the_interpreter_is_kept(self):
-        self.assertIsInstance(card._lib, ctypes.PyDLL)
+        self.assertIsInstance(library.lib, ctypes.PyDLL)
 
 
 if __name__ == "__main__":

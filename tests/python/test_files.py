@@ -21,7 +21,11 @@ import uuid
 ROOT = pathlib.Path(__file__).resolve().parent.parent.parent
 sys.path.insert(0, str(ROOT / "hosts" / "python"))
 sys.dont_write_bytecode = True
-import card  # noqa: E402 (the module is found by the lines above)
+import card  # noqa: E402 (the package is found by the lines above)
+import card._library as library  # noqa: E402
+import card._structs as structs  # noqa: E402
+from card._buffers import lent  # noqa: E402
+from card._records import record_in  # noqa: E402
 
 DISK = uuid.UUID("5a3f1c20-11e7-4b6d-9c04-0242ac110000")
 SMALLEST = ((512, 68, 34), (4096, 12, 6))  # block size, blocks, the only usable one
@@ -339,6 +343,23 @@ class Files(unittest.TestCase):
                 refusal = answer(file.reload)
                 self.assertEqual((refusal or answer(file.check))[1], 8 if not length else 10 if length < 68 * 512 else 16)
 
+    def test_it_is_gone_through_and_says_what_it_is(self):
+        image = whole(512)
+        card.put(image, 512, 5, record(35, 35, "more"))
+        with self.opened(image, 512) as file:
+            self.assertEqual([(entry.slot, entry.record.name) for entry in file], [(5, "more"), (33, "map")])
+            # The entries are those of the beginning, also where the loop changes the card.
+            for entry in file:
+                file.clear(entry.slot)
+            self.assertEqual((list(file), file.count(), file.path, file.closed), ([], 0, self.path, False))
+            self.assertEqual(repr(file), f"<card.Card {str(self.path)!r}: 70 blocks of 512 bytes, writable>")
+        self.assertEqual((file.closed, repr(file)), (True, f"<card.Card {str(self.path)!r}: closed>"))
+        self.assertRaisesRegex(ValueError, "the card is closed", iter, file)
+        image[512] ^= 1
+        with self.opened(image, 512, writable=False) as file:
+            self.assertRaisesRegex(card.Refused, "refused 4,", iter, file)
+            self.assertEqual(repr(file), f"<card.Card {str(self.path)!r}: 70 blocks of 512 bytes, read-only>")
+
     def test_a_card_that_is_only_read(self):
         with self.opened(whole(512), 512, writable=False) as file:
             self.assertEqual((file.count(), file.read_payload(33, 0, 2), file.writable), (1, b"\xa5\xa5", False))
@@ -411,18 +432,18 @@ class Windows(unittest.TestCase):
 
     def gives(self, number, call, head, tail, *rest):
         before = bytes(head), bytes(tail)
-        with card._lent(head) as front, card._lent(tail) as back:
+        with lent(head) as front, lent(tail) as back:
             self.assertEqual(call(*front, *back, *rest).number, number, (rest[:2], len(head), len(tail)))
         if number:
             self.assertEqual((bytes(head), bytes(tail)), before)
 
     def calls(self, usable):
-        rows, starts, lengths = (card._Row * 128)(), (ctypes.c_uint64 * 129)(), (ctypes.c_uint64 * 129)()
-        listed, put = (ctypes.byref(rows), ctypes.sizeof(rows)), (1, card._record(record(usable + 1, usable + 1)))
-        return ((card._window_check,), (card._window_count,), (card._window_slot, 1), (card._window_list, *listed),
-                (card._window_free_runs, ctypes.byref(starts), 129, ctypes.byref(lengths), 129), (card._window_map,), (card._window_copy,), (card._window_reader_slot, 1),
-                (card._window_reader_list, *listed), (card._window_place, 33, 0, 1), (card._window_lay, card._Guid.from_buffer_copy(DISK.bytes_le)), (card._window_put, *put),
-                (card._window_clear, 1), (card._window_start_put, *put), (card._window_start_clear, 1), (card._window_start_repair,))
+        rows, starts, lengths = (structs.Row * 128)(), (ctypes.c_uint64 * 129)(), (ctypes.c_uint64 * 129)()
+        listed, put = (ctypes.byref(rows), ctypes.sizeof(rows)), (1, record_in(record(usable + 1, usable + 1)))
+        return ((library.card_window_check,), (library.card_window_count_used,), (library.card_window_read_slot, 1), (library.card_window_list, *listed),
+                (library.card_window_free_runs, ctypes.byref(starts), 129, ctypes.byref(lengths), 129), (library.card_window_map_make,), (library.card_window_reader_copy,), (library.card_window_reader_slot, 1),
+                (library.card_window_reader_list, *listed), (library.card_window_payload_place, 33, 0, 1), (library.card_window_lay, structs.Guid.from_buffer_copy(DISK.bytes_le)), (library.card_window_put, *put),
+                (library.card_window_clear, 1), (library.card_window_start_put, *put), (library.card_window_start_clear, 1), (library.card_window_start_repair,))
 
     def test_the_numbers_that_come_first(self):
         for size, few, usable in SMALLEST:
@@ -443,9 +464,9 @@ class Windows(unittest.TestCase):
     def test_the_numbers_of_a_later_stage(self):
         for size, _, _ in SMALLEST:
             wrap = (1 << 64) // size
-            for start, go_on, rest in ((card._window_start_clear, card._window_next_stage, (33,)), (card._window_start_repair, card._window_next_repair, ())):
+            for start, go_on, rest in ((library.card_window_start_clear, library.card_window_next_stage, (33,)), (library.card_window_start_repair, library.card_window_next_repair, ())):
                 head, tail, blocks = self.windows(size)
-                with card._lent(head) as front, card._lent(tail) as back:
+                with lent(head) as front, lent(tail) as back:
                     state = start(*front, *back, blocks, size, *rest).state
                 self.assertEqual((state.next, state.len), (2, blocks * size))
                 self.gives(1, go_on, b"", tail, 0, 513, 2, state)

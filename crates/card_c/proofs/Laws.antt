@@ -1,17 +1,13 @@
--- How an answer crosses, one law for each way that the code makes one. No contract cites this file. Assumes nothing.
+-- How an answer of the card calls crosses, one law for each way that the code makes one; what holds of the ported calls too is in answers_c/proofs/Laws. No contract cites this file. Assumes nothing.
 use mathlib.Core.Path.{_≡_, refl, sym, ap, _∙_}
 use mathlib.Core.Bool.{Bool}
 use mathlib.Core.List.{List, []}
-use Prim.Native.Nat.{ℕ, zero, suc, _/_, _≤_, _<_}
-use borrow.Author.Tests.{lt-ltb, le-ltb}
+use Prim.Native.Nat.{ℕ, zero, suc}
 use lib.ListN.{length}
 use Rattle.units.specs.declared.why.Why.{Why}
-use Rattle.units.specs.Answer.{Answer, accepted, refused, refuse, fine, ifZero, andThen, Beside, beside, Outcome, gives, Ends}
-use Rattle.partition.specs.Format.{entryAt}
+use Rattle.units.specs.Answer.{Answer, accepted, refused, fine, ifZero, Beside, beside, Outcome, gives, Ends}
 use Rattle.rows.specs.declared.Entry.{Entry}
-use Rattle.rows.specs.declared.inner.Plan.{Plan}
-use Rattle.rows.specs.Plans.{planned, roomed, plainly}
-use Rattle.rows.specs.RowBytes.{bytesOutcome}
+use Rattle.rows.specs.Plans.{roomed}
 use Rattle.ground.specs.Answers.{Rows, RowsEnd}
 use Rattle.slot_map.specs.declared.SlotMap.{SlotMap}
 use Rattle.slot_map.specs.Bits.{mapOf}
@@ -19,35 +15,16 @@ use Rattle.slot_map.proofs.BitLaws.{map-none}
 use Rattle.label.specs.declared.Dated.{Dated}
 use Rattle.label.specs.Judging.{SetAnswer, oneDate, refusedAt}
 use Rattle.windows.specs.Windows.{whole, windowCheck, windowAnswer, Windowed, WindowEnds}
+use Rattle.answers_c.specs.Crossing.{outcomeToC}
 use Rattle.card_c.specs.declared.answers.CardAnswer.{CardAnswer}
-use Rattle.card_c.specs.Exports.{outcomeToC, rowsToC, crossed, aside, countToC, answered, entryParsed}
-use Rattle.card_c.specs.CardExports.{whyToC, crossedAt, asideAt, mapBits, madeTold, MadeToC, judgedMade, judgedToC}
+use Rattle.card_c.specs.CardExports.{rowsToC, whyToC, crossedAt, asideAt, mapBits, madeTold, MadeToC, judgedMade, judgedToC}
 use Rattle.card_c.specs.Windows.{windowToC}
 
-module _ {A S : Type 0} (make : ℕ → A → S) (z : A) where
-  pub crossed-fine : (a : Answer A) {x : A} → a ≡ accepted x → make 0 x ≡ crossed make z a
-  unfolding crossed
-  crossed-fine a e = sym (ap (crossed make z) e)
-
-  pub crossed-no : (a : Answer A) {w : Why} {k : ℕ} → a ≡ refused w → k ≡ w .number → make k z ≡ crossed make z a
-  unfolding crossed
-  crossed-no a e q = ap (λ (i : ℕ). make i z) q ∙ sym (ap (crossed make z) e)
-
-  -- where the value beside a refusal is the one that crosses, both are told in the same way
-  pub aside-crossed : (a : Answer A) → aside make (beside z a) ≡ crossed make z a
-  unfolding aside beside crossed
-  aside-crossed (accepted x) = refl
-  aside-crossed (refused w) = refl
-
--- a call that ends in an outcome ends in the outcome so told
-pub told-ends : {A C : Type 0} (f : A → C) (o : Outcome A) {a : A} {r : C} {i : List ℕ} → Ends o a i → r ≡ f a → Ends (outcomeToC f o) r i
-told-ends f o e q = record { answer = q ∙ ap f (e .answer); image = e .image }
-
--- and so does one that lends two rows
+-- a call that lends two rows and ends in an outcome ends in the outcome so told
 pub told-rows : {A C : Type 0} (f : A → C) (o : Rows A) {a : A} {r : C} {s l : List ℕ} → RowsEnd o a s l → r ≡ f a → RowsEnd (rowsToC f o) r s l
 told-rows f o e q = record { answer = q ∙ ap f (e .answer); starts = e .starts; lengths = e .lengths }
 
--- the same of the card calls, whose answers say the place
+-- the laws of answers_c for the card calls, whose answers say the place
 module _ {A S : Type 0} (make : CardAnswer → A → S) (z : A) where
   pub card-fine : (a : Answer A) {x : A} → a ≡ accepted x → make (whyToC fine) x ≡ crossedAt make z a
   unfolding crossedAt
@@ -89,43 +66,6 @@ module _ (a : SetAnswer) where
   pub judged-no : {w : Why} {s : ℕ} {k : CardAnswer} → a ≡ refusedAt w s → k ≡ whyToC w → judgedMade s k (record { year = 0; month = 0; day = 0; style = 0 }) ≡ judgedToC a
   unfolding crossedAt
   judged-no {w} {s} e q = ap (λ (i : CardAnswer). judgedMade s i (record { year = 0; month = 0; day = 0; style = 0 })) q ∙ sym (ap judgedToC e)
-
--- the answer that stands behind a verdict with a value beside it
-pub answered-beside : {A : Type 0} (z : A) (a : Answer A) → answered (beside z a) ≡ a
-unfolding answered beside
-answered-beside z (accepted x) = refl
-answered-beside z (refused w) = refl
-
-pub answered-fine : {A : Type 0} (r : Beside A) → r .verdict ≡ accepted tt → answered r ≡ accepted (r .value)
-unfolding answered
-answered-fine r e = ap (λ (v : Answer Unit). andThen v (λ u. accepted (r .value))) e
-
-pub answered-no : {A : Type 0} (r : Beside A) {w : Why} → r .verdict ≡ refused w → answered r ≡ refused w
-unfolding answered
-answered-no r e = ap (λ (v : Answer Unit). andThen v (λ u. accepted (r .value))) e
-
--- ---- a record from bytes
-
-pub entry-short : (xs : List ℕ) → length xs < 128 → entryParsed xs ≡ refuse 2
-unfolding entryParsed
-entry-short xs h = rw (lt-ltb (length xs) 128 h)
-
-pub entry-whole : (xs : List ℕ) → 128 ≤ length xs → entryParsed xs ≡ accepted (entryAt xs 0)
-unfolding entryParsed
-entry-whole xs h = rw (le-ltb (length xs) 128 h)
-
--- ---- rows in lent bytes
-
--- a plan carried out, told to C by f: what the plan says, with the 15 of the rows that the bytes have, is what is asked for
-pub rows-told : {C : Type 0} (f : Answer ℕ → C) (xs out : List ℕ) (p : Plan) {said asked : Answer (List Entry)} → planned xs p ≡ said → roomed (length out / 136) said ≡ asked → {a : Answer ℕ} {r : C} {ys : List ℕ}
-    → Ends (bytesOutcome (roomed (length out / 136) (planned xs p)) out) a ys → r ≡ f a → Ends (outcomeToC f (bytesOutcome asked out)) r ys
-rows-told f xs out p e g h q = told-ends f _ (rw (e, g) at h) q
-
--- a ported call's count has no place to drop
-pub count-plainly : (a : Answer ℕ) → countToC (plainly a) ≡ countToC a
-unfolding crossed
-count-plainly (accepted n) = refl
-count-plainly (refused w) = refl
 
 -- ---- the calls on two windows
 

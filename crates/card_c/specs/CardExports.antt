@@ -1,11 +1,12 @@
 -- What C gets for each answer of the card calls: the number first, 0 for accepted, then the values, and the place that the card check names (document 02, 5/13), with the slot that
 -- differs apart from the slot that 22 or 25 carries. Beside a refusal each value is zero. Assumes nothing.
 use mathlib.Core.Path.{_≡_}
-use mathlib.Core.Bool.{Bool, false}
+use mathlib.Core.Bool.{Bool, true, false}
 use mathlib.Core.List.{List, []}
 use Prim.Native.Nat.{ℕ}
 use lib.ListN.{getD, replicate}
 use Rattle.units.specs.declared.BytePlace.{BytePlace}
+use Rattle.units.specs.declared.Slot.{Slot}
 use Rattle.units.specs.declared.Place.{Place}
 use Rattle.units.specs.declared.Place.the-variants as place
 use Rattle.units.specs.declared.why.Why.{Why}
@@ -14,6 +15,8 @@ use Rattle.units.specs.Meanings.{cardMeans}
 use Rattle.units.specs.Guids.{nilGuid}
 use Rattle.partition.specs.Array.{Found}
 use Rattle.partition.specs.Format.{zeroPartition}
+use Rattle.tables.specs.Lens.{Side, Front, Back}
+use Rattle.ground.specs.Answers.{Rows}
 use Rattle.listing.specs.Listing.{Listed}
 use Rattle.listing.specs.Meanings.{Used, firstUsed}
 use Rattle.slot_map.specs.declared.Carried.{Carried}
@@ -24,6 +27,8 @@ use Rattle.staged.specs.Meanings.{zeroUpdate}
 use Rattle.label.specs.declared.Label.{Label}
 use Rattle.label.specs.declared.Dated.{Dated}
 use Rattle.label.specs.Judging.{SetAnswer}
+use Rattle.answers_c.specs.declared.GptNext.{GptNext}
+use Rattle.answers_c.specs.Crossing.{crossed}
 use Rattle.card_c.specs.declared.answers.CardAnswer.{CardAnswer}
 use Rattle.card_c.specs.declared.answers.CardStored.{CardStored}
 use Rattle.card_c.specs.declared.answers.CardSpot.{CardSpot}
@@ -35,8 +40,13 @@ use Rattle.card_c.specs.declared.labels.CardLabelRead.{CardLabelRead}
 use Rattle.card_c.specs.declared.labels.CardJudged.{CardJudged}
 use Rattle.card_c.specs.declared.maps.CardMapMade.{CardMapMade}
 use Rattle.card_c.specs.declared.maps.CardCarried.{CardCarried}
+use Rattle.card_c.specs.declared.pulled.CardCopy.{CardCopy}
 use Rattle.card_c.specs.declared.pulled.CardUpdateStep.{CardUpdateStep}
 use Rattle.card_c.specs.declared.pulled.CardRepairStep.{CardRepairStep}
+
+-- an answer and two rows, the answer told in another way
+abbrev pub rowsToC : {A C : Type 0} → (A → C) → Rows A → Rows C
+rowsToC f o = record { answer = f (o .answer); starts = o .starts; lengths = o .lengths }
 
 -- the number of a place, and the slot that differs
 abbrev pub placeNumber : Place → ℕ
@@ -129,6 +139,19 @@ pub record MadeToC (a : Answer (List Bool)) (o : CardMapMade) : Type 0 where
 -- a map is handed on as it is
 abbrev pub carriedToC : Carried → CardCarried
 carriedToC r = record { answer = answerToC (cardMeans (r .verdict)); map = r .map }
+
+-- the lowest free slot of a map; 33 names no place
+abbrev pub freeToC : Answer Slot → GptNext
+freeToC a = crossed (λ k s. record { number = k; slot = s .0 }) (record { 0 = 0 }) a
+
+-- ---- the pulled card: the table that the reader takes
+
+abbrev pub isBack : Side → Bool
+isBack Front = false
+isBack Back = true
+
+abbrev pub copyToC : Answer Side → CardCopy
+copyToC a = crossed (λ k s. record { number = k; back = isBack s }) Front a
 
 -- ---- the stages of the pulled card: the state for the next stage, zero beside a refusal
 

@@ -1,4 +1,3 @@
 -- The definitions that the contracts of the exports cite.
-pub mod Exports
 pub mod CardExports
 pub mod Windows

@@ -9,8 +9,7 @@ use Rattle.reader.specs.Reader.{readerRead}
 use Rattle.ground.specs.Answers.{Rows}
 use Rattle.windows.specs.Windows.{Windowed, windowAnswer, windowOutcome}
 use Rattle.card_c.specs.declared.answers.CardCount.{CardCount}
-use Rattle.card_c.specs.Exports.{rowsToC}
-use Rattle.card_c.specs.CardExports.{cardCountToC}
+use Rattle.card_c.specs.CardExports.{rowsToC, cardCountToC}
 
 -- an outcome with its answer told in another way
 abbrev pub windowToC : {A C : Type 0} → (A → C) → Windowed A → Windowed C

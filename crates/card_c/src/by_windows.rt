@@ -25,7 +25,7 @@ ghost use Rattle.ground.specs.Answers.{RowsEnd};
 ghost use Rattle.slot_map.specs.Map.{madeAnswer};
 ghost use Rattle.windows.specs.Windows.{windowAnswer, WindowEnds};
 ghost use Rattle.windows_listing.specs.Ground.{groundIn};
-ghost use Rattle.card_c.specs.Exports.{outcomeToC};
+ghost use Rattle.answers_c.specs.Crossing.{outcomeToC};
 ghost use Rattle.card_c.specs.CardExports.{answerToC, spotToC, cardCountToC, cardNextToC, cardHeldToC, usedToC, MadeToC};
 ghost use Rattle.card_c.specs.Windows.{windowTold, windowList, runsToC};
 

@@ -20,7 +20,7 @@ ghost use Rattle.tables.specs.Check.{checkAnswer};
 ghost use Rattle.listing.specs.Listing.{countAnswer, nextAnswer, slotRead, nthAnswer};
 ghost use Rattle.listing.specs.LentRow.{listingRead};
 ghost use Rattle.rows.specs.RowBytes.{bytesOutcome};
-ghost use Rattle.card_c.specs.Exports.{outcomeToC};
+ghost use Rattle.answers_c.specs.Crossing.{outcomeToC};
 ghost use Rattle.card_c.specs.CardExports.{answerToC, cardStoredToC, spotToC, cardCountToC, cardNextToC, cardHeldToC, usedToC};
 
 // Lays an empty card: 1, 8, 10.

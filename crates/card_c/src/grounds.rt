@@ -4,8 +4,7 @@ use crate::answers::CardCount;
 use ground::RunCount;
 ghost use mathlib.Core.Path.{_≡_};
 ghost use Rattle.ground.specs.Answers.{RowsEnd, runCountMeans, groundOutcome};
-ghost use Rattle.card_c.specs.Exports.{rowsToC};
-ghost use Rattle.card_c.specs.CardExports.{cardCountToC};
+ghost use Rattle.card_c.specs.CardExports.{rowsToC, cardCountToC};
 
 pub fn run_count_to_c(r: RunCount) -> CardCount
     ensures { λ o. ⌜ o ≡ cardCountToC (runCountMeans r) ⌝ }

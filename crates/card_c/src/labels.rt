@@ -11,7 +11,7 @@ ghost use Rattle.label.specs.Calls.{readLabelAnswer, writeLabelOutcome};
 ghost use Rattle.label.specs.Judging.{judgeAnswer};
 ghost use Rattle.label.specs.Meanings.{labelMeans, judgedMeans};
 ghost use Rattle.windows_label.specs.Handed.{handedLabel, handedSet};
-ghost use Rattle.card_c.specs.Exports.{outcomeToC};
+ghost use Rattle.answers_c.specs.Crossing.{outcomeToC};
 ghost use Rattle.card_c.specs.CardExports.{answerToC, labelToC, judgedToC};
 
 // Beside a refusal the label is zero.

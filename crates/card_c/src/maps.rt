@@ -1,7 +1,7 @@
 // The slot map for C.
 use crate::answers;
 use crate::answers::CardAnswer;
-use crate::answers::GptNext;
+use answers_c::GptNext;
 use partition::Partition;
 use slot_map::Carried;
 use slot_map::MapMade;
@@ -16,8 +16,8 @@ ghost use Rattle.card.specs.Calls.{putOutcome, clearOutcome};
 ghost use Rattle.history.specs.History.{taken};
 ghost use Rattle.slot_map.specs.Bits.{mapOf, countTrue};
 ghost use Rattle.slot_map.specs.Map.{freeAnswer, madeMeans, madeAnswer, marked};
-ghost use Rattle.card_c.specs.Exports.{outcomeToC, freeToC};
-ghost use Rattle.card_c.specs.CardExports.{answerToC, MadeToC, carriedToC};
+ghost use Rattle.answers_c.specs.Crossing.{outcomeToC};
+ghost use Rattle.card_c.specs.CardExports.{freeToC, answerToC, MadeToC, carriedToC};
 
 // Beside a refusal the map is zero.
 #[repr(C)]

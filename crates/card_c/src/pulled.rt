@@ -1,8 +1,8 @@
 // The pulled card for C: put, clear and repair in stages of one block store, and the reader of a card that was pulled between them (document 02, 6/13).
 use crate::answers;
-use crate::answers::GptCount;
-use crate::answers::GptNext;
-use crate::answers::GptSlotRead;
+use answers_c::GptCount;
+use answers_c::GptNext;
+use answers_c::GptSlotRead;
 use partition::Partition;
 use reader::GoodCopy;
 use staged::Repair;
@@ -20,8 +20,8 @@ ghost use Rattle.reader.specs.Reader.{sideAnswer, readerCount, readerNext, read
 ghost use Rattle.reader.specs.Meanings.{copyMeans};
 ghost use Rattle.staged.specs.Numbers.{startPut, startClear, nextStage, startRepair, nextRepair};
 ghost use Rattle.staged.specs.Meanings.{updateMeans, repairMeans};
-ghost use Rattle.card_c.specs.Exports.{outcomeToC, countToC, nextToC, heldToC, copyToC};
-ghost use Rattle.card_c.specs.CardExports.{asideAt, updateMade, updateToC, zeroRepair, repairToC};
+ghost use Rattle.answers_c.specs.Crossing.{outcomeToC, countToC, nextToC, heldToC};
+ghost use Rattle.card_c.specs.CardExports.{copyToC, asideAt, updateMade, updateToC, zeroRepair, repairToC};
 
 // Which table the reader takes: the back one, or else the front one.
 #[repr(C)]
@@ -137,7 +137,7 @@ pub extern "C" fn card_reader_copy(img: &[u8], b: u64) -> CardCopy
 pub extern "C" fn card_reader_count(img: &[u8], b: u64) -> GptCount
     ensures { λ r. ⌜ r ≡ countToC (readerCount b (now (img .entry))) ⌝ }
 {
-    answers::count_to_c(reader::count_used(img, b))
+    answers_c::count_to_c(reader::count_used(img, b))
 }
 
 // The first used slot of that table after a slot, where slot 0 stands before the first: 1, 8, 10, 27.
@@ -145,7 +145,7 @@ pub extern "C" fn card_reader_count(img: &[u8], b: u64) -> GptCount
 pub extern "C" fn card_reader_next(img: &[u8], b: u64, after: u32) -> GptNext
     ensures { λ r. ⌜ r ≡ nextToC (readerNext b (now (img .entry)) after) ⌝ }
 {
-    answers::next_to_c(reader::next_used(img, b, Slot(after)))
+    answers_c::next_to_c(reader::next_used(img, b, Slot(after)))
 }
 
 // What a slot of that table holds: 1, 8, 10, 27, 18.
@@ -153,7 +153,7 @@ pub extern "C" fn card_reader_next(img: &[u8], b: u64, after: u32) -> GptNext
 pub extern "C" fn card_reader_slot(img: &[u8], b: u64, slot: u32) -> GptSlotRead
     ensures { λ r. ⌜ r ≡ heldToC (readerSlot b (now (img .entry)) slot) ⌝ }
 {
-    answers::slot_to_c(reader::read_slot(img, b, Slot(slot)))
+    answers_c::slot_to_c(reader::read_slot(img, b, Slot(slot)))
 }
 
 // That table's listing into lent bytes, 136 bytes an entry, and how many there are: 1, 8, 10, 27, 15 where there are fewer bytes.
@@ -163,7 +163,7 @@ pub extern "C" fn card_reader_list(img: &[u8], b: u64, out: &mut [u8]) -> GptCou
 {
     let p = reader::inner::plan_of(img, b);
     let q = rows::inner::fill_bytes(img, p, out);
-    answers::count_to_c(q.answer())
+    answers_c::count_to_c(q.answer())
 }
 
 // Stage one of a put: put's numbers and places.

@@ -1,12 +1,11 @@
 // The pulled card for C on two windows: the reader, and put, clear and repair in stages of one block store (document 02, 10/13 and 6/13).
-use crate::answers;
-use crate::answers::GptCount;
-use crate::answers::GptNext;
-use crate::answers::GptSlotRead;
 use crate::pulled;
 use crate::pulled::CardCopy;
 use crate::pulled::CardRepairStep;
 use crate::pulled::CardUpdateStep;
+use answers_c::GptCount;
+use answers_c::GptNext;
+use answers_c::GptSlotRead;
 use partition::Partition;
 use staged::Repair;
 use staged::Update;
@@ -19,8 +18,8 @@ ghost use Rattle.reader.specs.Reader.{sideAnswer, readerCount, readerNext, read
 ghost use Rattle.staged.specs.Numbers.{startPut, startClear, startRepair};
 ghost use Rattle.windows.specs.Windows.{windowAnswer, WindowEnds};
 ghost use Rattle.windows_staged.specs.Stages.{nextWindowed, nextRepairWindowed};
-ghost use Rattle.card_c.specs.Exports.{outcomeToC, countToC, nextToC, heldToC, copyToC};
-ghost use Rattle.card_c.specs.CardExports.{updateToC, repairToC};
+ghost use Rattle.answers_c.specs.Crossing.{outcomeToC, countToC, nextToC, heldToC};
+ghost use Rattle.card_c.specs.CardExports.{copyToC, updateToC, repairToC};
 ghost use Rattle.card_c.specs.Windows.{windowToC, windowTold, windowReaderList};
 
 // Which window's table the reader takes: 1, 3, 8, 10, 32, 27.
@@ -46,7 +45,7 @@ pub extern "C" fn card_window_reader_count<'a>(
 ) -> GptCount
     ensures { λ r. ⌜ r ≡ countToC (windowAnswer b blocks (now (head .entry)) (now (tail .entry)) (readerCount b)) ⌝ }
 {
-    answers::count_to_c(windows_reader::count_used(head, tail, blocks, b))
+    answers_c::count_to_c(windows_reader::count_used(head, tail, blocks, b))
 }
 
 // The first used slot of that table after a slot, where slot 0 stands before the first: 1, 3, 8, 10, 32, 27.
@@ -60,7 +59,7 @@ pub extern "C" fn card_window_reader_next<'a>(
 ) -> GptNext
     ensures { λ r. ⌜ r ≡ nextToC (windowAnswer b blocks (now (head .entry)) (now (tail .entry)) (λ (xs : List ℕ). readerNext b xs after)) ⌝ }
 {
-    answers::next_to_c(windows_reader::next_used(head, tail, blocks, b, Slot(after)))
+    answers_c::next_to_c(windows_reader::next_used(head, tail, blocks, b, Slot(after)))
 }
 
 // What a slot of that table holds: 1, 3, 8, 10, 32, 27, 18.
@@ -74,7 +73,7 @@ pub extern "C" fn card_window_reader_slot<'a>(
 ) -> GptSlotRead
     ensures { λ r. ⌜ r ≡ heldToC (windowAnswer b blocks (now (head .entry)) (now (tail .entry)) (λ (xs : List ℕ). readerSlot b xs slot)) ⌝ }
 {
-    answers::slot_to_c(windows_reader::read_slot(head, tail, blocks, b, Slot(slot)))
+    answers_c::slot_to_c(windows_reader::read_slot(head, tail, blocks, b, Slot(slot)))
 }
 
 // That table's listing into lent bytes, 136 bytes an entry, and how many there are: 1, 3, 8, 10, 32, 27, 15 where there are fewer bytes.
@@ -91,7 +90,7 @@ pub extern "C" fn card_window_reader_list<'a>(
     let p = windows_reader::inner::plan_in(head, tail, blocks, b);
     let part = windows_reader::good_part(head, tail, blocks, b);
     let q = rows::inner::fill_bytes(part, p, out);
-    answers::count_to_c(q.answer())
+    answers_c::count_to_c(q.answer())
 }
 
 // Stage one of a put: put's numbers and places on windows.

@@ -7,6 +7,7 @@ use crate::failure::{io_failure, Failure, Outcome};
 use crate::medium::{drawn_guid, Access, Medium};
 use crate::opened::{block_size, given_block_size, io_words, Opened};
 use crate::output::Out;
+use crate::over;
 use crate::payload::{self, Source, CHUNK};
 use crate::plan::{self, Line, Plan};
 use crate::progress::Progress;
@@ -246,20 +247,21 @@ fn opened_or_laid(work: &Work, medium: Medium, path: &Path, touched: &mut bool, 
         return Err(Failure::Refused(format!("{shown} has {bytes} bytes, not the {size} of --size. Nothing was changed.")));
     }
     let again = medium.again(None).map_err(failed)?;
-    let opened = Opened::of(medium, path, block_size, access)?;
+    let given = given_block_size(args)?.or(plan.block_size);
+    let opened = Opened::of(medium, path, block_size, given, access)?;
     let whole = opened.card.check().is_ok();
-    let blank =
-        !whole && opened.reader_table()?.is_none() && opened.shorter()?.is_none() && opened.at_other_size()?.is_none() && opened.would_drop()?.is_none();
-    if !(plan.lay && blank) {
+    let no_card = !whole && opened.reader_table()?.is_none() && opened.shorter()?.is_none() && opened.at_other_size()?.is_none();
+    if !(plan.lay && no_card) {
         opened.checked(opened.card.check())?;
         return Ok(opened);
     }
+    over::refused(&opened)?;
     let card = lay_on(again, path, block_size, guid)?;
     let dry = card.get_ref().is_dry();
     *touched |= !dry;
     let (laid, guid) = if dry { ("would be laid", String::new()) } else { ("laid", format!(", GUID {guid}")) };
     out.line(format!("{shown}: {laid}: {} blocks of {} bytes ({}){guid}", card.blocks(), opened.b(), words::size(card.blocks() * opened.b())));
-    Opened::of(card.into_inner(), path, block_size, access)
+    Opened::of(card.into_inner(), path, block_size, given, access)
 }
 
 /// Brings one slot to what its line says. Says what was done; nothing, where it was so already.
@@ -422,7 +424,10 @@ fn older_bytes(opened: &mut Opened, line: &Line, out: &mut Out) -> Outcome {
     let mut bytes = vec![0; all.saturating_sub(end).min(4096) as usize];
     opened.card.read_payload(line.slot, end, &mut bytes).map_err(|error| io_words(&opened.path, error))?;
     if bytes.iter().any(|byte| *byte != 0) {
-        out.line(format!("{}: slot {}: other bytes stand behind the map's last one; card clear --wipe takes them away", opened.shown(), line.slot));
+        let (shown, word, slot) = (opened.shown(), opened.word(), line.slot);
+        out.line(format!(
+            "{shown}: slot {slot}: other bytes stand behind the map's last one; card clear --wipe {word} {slot} and then the plan again take them away"
+        ));
     }
     Ok(())
 }

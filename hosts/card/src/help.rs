@@ -28,7 +28,7 @@ pub const COMMANDS: &[Command] = &[
     Command {
         name: "lay",
         words: "FILE [--size 8G] [-b 512|4096] [--guid G] [--force]",
-        does: "lays an empty card on a file or device; --size makes the file, --force lays over used slots",
+        does: "lays an empty card on a file or device; --size makes the file, --force lays over slots, partitions or a file system that are there",
         options: &[HELP, BLOCK, DRY, MOUNTED, SIZE, GUID, ("force", None)],
         run: table::lay,
     },
@@ -43,8 +43,8 @@ pub const COMMANDS: &[Command] = &[
     Command { name: "free", words: "FILE", does: "lists the free ground", options: &[HELP, BLOCK], run: look::free },
     Command {
         name: "put",
-        words: "FILE SLOT|next (--first N --last N | --size 2G) [--type T] [--name NAME] [--guid G] [--attrs A]",
-        does: "puts a partition into a slot, in four stages; --type is data, linux, efi, swap or a GUID",
+        words: "FILE SLOT|next (--first N --last N | --size 2G) [--type T] [--name NAME] [--guid G] [--attrs A] [--replace]",
+        does: "puts a partition into a slot, in four stages; --type is data, linux, efi, swap or a GUID; --replace puts over a used slot that would not keep its blocks",
         options: &[
             HELP,
             BLOCK,
@@ -58,6 +58,7 @@ pub const COMMANDS: &[Command] = &[
             ("type", Some("a type")),
             ("name", Some("a name")),
             ("attrs", Some("flags by name")),
+            ("replace", None),
         ],
         run: table::put,
     },

@@ -12,6 +12,7 @@ mod look;
 mod medium;
 mod opened;
 mod output;
+mod over;
 mod payload;
 mod plan;
 mod progress;

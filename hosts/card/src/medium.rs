@@ -169,6 +169,15 @@ impl Medium {
         Ok(bytes)
     }
 
+    /// The last bytes of the file, 1 MiB or fewer, and their place: as far as a back table goes.
+    pub fn end(&self) -> io::Result<(u64, Vec<u8>)> {
+        let length = self.length_now()?;
+        let mut bytes = vec![0; length.min(1 << 20) as usize];
+        let place = length - bytes.len() as u64;
+        read_what_is_there(&self.file, &mut bytes, place)?;
+        Ok((place, bytes))
+    }
+
     /// How many bytes were written in all, also by a write that failed in the middle.
     pub fn written(&self) -> u64 {
         self.written.get()

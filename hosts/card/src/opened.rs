@@ -4,6 +4,7 @@ use crate::failure::{io_failure, system_words, Failure, Outcome};
 use crate::medium::{Access, Medium};
 use crate::words::{count, quoted};
 use card::{ffi, BlockSize, FileCard, FileError, Guid, Name, Place, Refusal, Refused, Table};
+use std::os::unix::ffi::OsStrExt;
 use std::path::{Path, PathBuf};
 
 /// A card in a file or device.
@@ -11,6 +12,15 @@ pub struct Opened {
     pub path: PathBuf,
     pub card: FileCard<Medium>,
     writes: bool,
+    /// The block size, where it was given and not found here: a command that is advised has to say it too.
+    given: Option<BlockSize>,
+}
+
+/// A card's file in words: as it is shown, and as a command that is advised has it. And whether nothing is written.
+pub struct Said {
+    pub shown: String,
+    pub word: String,
+    pub dry: bool,
 }
 
 /// A card of fewer blocks than its file has: the card, its disk GUID, and the table that the reader takes of it.
@@ -41,15 +51,15 @@ impl Opened {
     pub fn open(args: &Args, path: &Path, access: Access) -> Outcome<Opened> {
         let medium = Medium::open(path, access)?;
         let block_size = block_size(args, &medium, &path.display().to_string())?;
-        Opened::of(medium, path, block_size, access)
+        Opened::of(medium, path, block_size, given_block_size(args)?, access)
     }
 
-    /// The card in a medium.
-    pub fn of(medium: Medium, path: &Path, block_size: BlockSize, access: Access) -> Outcome<Opened> {
+    /// The card in a medium, with the block size that was given.
+    pub fn of(medium: Medium, path: &Path, block_size: BlockSize, given: Option<BlockSize>, access: Access) -> Outcome<Opened> {
         let bytes = medium.length_now();
         let writes = access != Access::Read;
         match FileCard::open(medium, block_size) {
-            Ok(card) => Ok(Opened { path: path.to_path_buf(), card, writes }),
+            Ok(card) => Ok(Opened { path: path.to_path_buf(), card, writes, given }),
             Err(FileError::Refused(refused)) => {
                 let left = if writes { " Nothing was changed." } else { "" };
                 let small = too_small(bytes.unwrap_or(0), block_size);
@@ -64,9 +74,14 @@ impl Opened {
         self.path.display().to_string()
     }
 
-    /// The path as a word of a command that the user is told to give.
+    /// The file in a command that the user is told to give.
     pub fn word(&self) -> String {
-        shell_word(&self.path)
+        command_word(&self.path, self.given)
+    }
+
+    /// Both, for an update that has the card.
+    pub fn said(&self) -> Said {
+        Said { shown: self.shown(), word: self.word(), dry: self.card.get_ref().is_dry() }
     }
 
     /// How many bytes a block has.
@@ -179,7 +194,7 @@ impl Opened {
     pub fn at_other_size(&self) -> Outcome<Option<FileCard<Medium>>> {
         let Ok(other) = BlockSize::try_from(other_size(self.card.block_size())) else { return Ok(None) };
         let Some(card) = self.unless_refused(FileCard::open(self.again(None)?, other))? else { return Ok(None) };
-        let opened = Opened { path: self.path.clone(), card, writes: self.writes };
+        let opened = Opened { path: self.path.clone(), card, writes: self.writes, given: None };
         match opened.reader_table()? {
             Some(_) => Ok(Some(opened.card)),
             None => Ok(opened.shorter()?.map(|shorter| shorter.card)),
@@ -199,8 +214,8 @@ impl Opened {
         Ok(Some(Shorter { card, guid: Guid::from_fields(time_low, time_mid, time_high, tail), table }))
     }
 
-    /// What laying would drop: the used slots that the reader shows, at this length or a shorter one, at this block size or the other one, or that another maker's front table has.
-    pub fn would_drop(&self) -> Outcome<Option<String>> {
+    /// The used slots that the reader shows, at this length or a shorter one, at this block size or the other one.
+    pub fn shown_slots(&self) -> Outcome<Option<String>> {
         if let Some(list) = self.unless_refused(self.card.reader_list())?.filter(|list| list.len() > 0) {
             return Ok(Some(format!("is a card with {}", count(list.len(), "used slot"))));
         }
@@ -214,14 +229,7 @@ impl Opened {
                 return Ok(Some(format!("is a card with blocks of {b} bytes and {}", count(list.len(), "used slot"))));
             }
         }
-        let front = self.card.get_ref().beginning().map_err(|failure| io_failure(&self.shown(), &failure))?;
-        let theirs = [BlockSize::B512, BlockSize::B4096]
-            .into_iter()
-            .filter_map(|b| card::uefi_list(&front, b, Table::Front).ok())
-            .map(|list| list.len())
-            .max()
-            .unwrap_or(0);
-        Ok((theirs > 0).then(|| format!("has another maker's table with {}", count(theirs, "used slot"))))
+        Ok(None)
     }
 
     /// The bytes of a slot in each table, front and back.
@@ -263,13 +271,26 @@ fn other_size(block_size: BlockSize) -> u64 {
     }
 }
 
-/// A path as one word of a shell.
-pub fn shell_word(path: &Path) -> String {
-    let text = path.display().to_string();
+/// A file in a command that the user is told to give: the block size, where it was given, and the path as one word of a shell.
+pub fn command_word(path: &Path, given: Option<BlockSize>) -> String {
+    let block_size = given.map_or(String::new(), |size| format!("-b {} ", size.bytes()));
+    block_size + &shell_word(path)
+}
+
+/// A path as one word of a shell. One that begins with a dash would be taken for an option; one that a terminal cannot show is written with its bytes' numbers.
+fn shell_word(path: &Path) -> String {
+    let path = if path.as_os_str().as_bytes().starts_with(b"-") { Path::new(".").join(path) } else { path.to_path_buf() };
     let plain = |c: char| c.is_alphanumeric() || "/._-+:@%,=".contains(c);
-    match !text.is_empty() && text.chars().all(plain) {
-        true => text,
-        false => format!("'{}'", text.replace('\'', "'\\''")),
+    let hidden = |c: char| c.is_control() || matches!(c, '\u{200e}' | '\u{200f}' | '\u{2028}'..='\u{202e}' | '\u{2066}'..='\u{2069}');
+    let escaped = |byte: &u8| match byte {
+        b'\'' | b'\\' => format!("\\{}", *byte as char),
+        b' '..=b'~' => (*byte as char).to_string(),
+        _ => format!("\\{byte:03o}"),
+    };
+    match path.to_str() {
+        Some(text) if !text.is_empty() && text.chars().all(plain) => text.to_string(),
+        Some(text) if !text.chars().any(hidden) => format!("'{}'", text.replace('\'', "'\\''")),
+        _ => format!("$'{}'", path.as_os_str().as_bytes().iter().map(escaped).collect::<String>()),
     }
 }
 

@@ -4,8 +4,9 @@ use crate::dry;
 use crate::failure::{io_failure, system_words, Failure, Outcome};
 use crate::look::name_of;
 use crate::medium::{drawn_guid, Access, Medium};
-use crate::opened::{block_size, given_block_size, io_words, shell_word, too_small, Opened, Shorter};
+use crate::opened::{block_size, command_word, given_block_size, io_words, too_small, Opened, Said, Shorter};
 use crate::output::Out;
+use crate::over;
 use crate::payload;
 use crate::words::{self, quoted};
 use card::{BlockSize, Device, Entry, FileCard, FileError, FileStaged, Flags, Guid, Name, Record, Refusal, Table};
@@ -25,7 +26,7 @@ pub fn lay(mut args: Args, out: &mut Out) -> Outcome {
     let path = PathBuf::from(args.word("FILE")?);
     args.end()?;
     let size = args.value("size", args::bytes)?;
-    given_block_size(&args)?;
+    let given = given_block_size(&args)?;
     let guid = match args.value("guid", args::guid)? {
         Some(guid) => guid,
         None => drawn_guid()?,
@@ -41,7 +42,7 @@ pub fn lay(mut args: Args, out: &mut Out) -> Outcome {
     drop(lock);
     match laid {
         Err(Failure::Io(words)) if !made && !dry && written.get() > 0 => {
-            Err(Failure::Io(format!("{words}. It may be laid in part: card show {} says what it shows; lay it again", shell_word(&path))))
+            Err(Failure::Io(format!("{words}. It may be laid in part: card show {} says what it shows; lay it again", command_word(&path, given))))
         }
         laid => laid,
     }
@@ -86,7 +87,7 @@ fn set_length(medium: &Medium, shown: &str, size: u64) -> Outcome {
     medium.file().set_len(size).map_err(|failure| io_failure(shown, &failure))
 }
 
-/// Lays the card, if that drops no slot.
+/// Lays the card, if that drops nothing.
 fn laid(args: &Args, medium: Medium, path: &Path, size: Option<u64>, guid: Guid, out: &mut Out) -> Outcome {
     let shown = path.display().to_string();
     let failed = |failure: io::Error| io_failure(&shown, &failure);
@@ -100,7 +101,7 @@ fn laid(args: &Args, medium: Medium, path: &Path, size: Option<u64>, guid: Guid,
         return Err(Failure::Refused(format!("{shown} has {bytes} bytes, not the {size} of --size. Nothing was changed.")));
     }
     if !args.has("force") {
-        drops_no_slot(&medium, path, block_size)?;
+        drops_nothing(args, &medium, path, block_size)?;
     }
     let card = lay_on(medium, path, block_size, guid)?;
     out.changed = !card.get_ref().is_dry();
@@ -176,20 +177,13 @@ fn finish_lay(card: &FileCard<Medium>, shown: &str, out: &mut Out) -> Outcome {
     Ok(())
 }
 
-/// Refuses to lay over used slots.
-fn drops_no_slot(medium: &Medium, path: &Path, block_size: BlockSize) -> Outcome {
-    let shown = path.display().to_string();
-    let again = medium.again(None).map_err(|failure| io_failure(&shown, &failure))?;
-    let opened = match Opened::of(again, path, block_size, Access::Read) {
+/// Refuses to lay over what is there.
+fn drops_nothing(args: &Args, medium: &Medium, path: &Path, block_size: BlockSize) -> Outcome {
+    let again = medium.again(None).map_err(|failure| io_failure(&path.display().to_string(), &failure))?;
+    match Opened::of(again, path, block_size, given_block_size(args)?, Access::Read) {
         // What is too small for a card is refused by the lay itself.
-        Err(Failure::Refused(_)) => return Ok(()),
-        opened => opened?,
-    };
-    match opened.would_drop()? {
-        None => Ok(()),
-        Some(what) => {
-            Err(Failure::Refused(format!("{shown} {what}, and laying drops them. Nothing was changed. To lay it anew: card lay --force {}", opened.word())))
-        }
+        Err(Failure::Refused(_)) => Ok(()),
+        opened => over::refused(&opened?),
     }
 }
 
@@ -230,28 +224,28 @@ pub struct Carried {
 }
 
 /// Makes the stages that are left, through a given one. What fails is said with the stage.
-pub fn carry(staged: FileStaged<'_, Medium>, shown: &str, last: u32, dry: bool) -> Outcome<Carried> {
+pub fn carry(staged: FileStaged<'_, Medium>, said: &Said, last: u32) -> Outcome<Carried> {
     let stages = staged.stages();
     let mut stage = staged.stage();
     let mut step = Some(staged);
     while stage < last.min(stages) {
         let Some(staged) = step else { break };
-        step = staged.next().map_err(|error| cut(shown, stage + 1, stages, &error, dry))?;
+        step = staged.next().map_err(|error| cut(said, stage + 1, stages, &error))?;
         stage += 1;
     }
     Ok(Carried { stage, stages })
 }
 
 /// An update that could not go on.
-fn cut(shown: &str, stage: u32, stages: u32, error: &FileError, dry: bool) -> Failure {
+fn cut(said: &Said, stage: u32, stages: u32, error: &FileError) -> Failure {
+    let Said { shown, word, dry } = said;
     let words = match error {
         FileError::Io(failure) => system_words(failure),
         other => other.to_string(),
     };
-    if dry {
+    if *dry {
         return Failure::Io(format!("{shown}: {words}. Nothing was changed"));
     }
-    let word = shell_word(Path::new(shown));
     let next = match stage {
         1 => format!("The reader shows the old table; card check {word} says whether the card has to be repaired"),
         _ => format!("The card is one that was pulled: card show {word} says what it shows, card repair {word} mends it"),
@@ -260,14 +254,9 @@ fn cut(shown: &str, stage: u32, stages: u32, error: &FileError, dry: bool) -> Fa
 }
 
 /// What a call that begins an update comes to: refused in its own words, or failed at stage 1.
-pub fn begun<'a>(
-    result: Result<FileStaged<'a, Medium>, FileError>,
-    shown: &str,
-    stages: u32,
-    dry: bool,
-) -> Result<Result<FileStaged<'a, Medium>, FileError>, Failure> {
+pub fn begun<'a>(result: Result<FileStaged<'a, Medium>, FileError>, said: &Said, stages: u32) -> Result<Result<FileStaged<'a, Medium>, FileError>, Failure> {
     match result {
-        Err(error @ FileError::Io(_)) => Err(cut(shown, 1, stages, &error, dry)),
+        Err(error @ FileError::Io(_)) => Err(cut(said, 1, stages, &error)),
         other => Ok(other),
     }
 }
@@ -307,7 +296,7 @@ fn ground(args: &Args) -> Outcome<Ground> {
     }
 }
 
-/// `put FILE SLOT|next (--first N --last N | --size S) [--type T] [--name NAME] [--guid G] [--attrs A]`
+/// `put FILE SLOT|next (--first N --last N | --size S) [--type T] [--name NAME] [--guid G] [--attrs A] [--replace]`
 pub fn put(mut args: Args, out: &mut Out) -> Outcome {
     let (path, slot) = (PathBuf::from(args.word("FILE")?), args.word("SLOT")?);
     args.end()?;
@@ -333,8 +322,29 @@ pub fn put(mut args: Args, out: &mut Out) -> Outcome {
     };
     let (first, last_block) = blocks_for(&opened, slot, ground)?;
     let record = Record { type_guid, guid, first, last: last_block, flags, name };
+    let held = held_by(&opened, slot, &record, args.has("replace"))?;
     let carried = put_record(&mut opened, slot, &record, last)?;
-    finish(&opened, carried, || put_words(slot, &record, opened.b()), out)
+    if let (Some(held), true) = (&held, opened.card.get_ref().is_dry()) {
+        out.line(format!("slot {slot} holds {held}: it would be replaced"));
+    }
+    let held = held.map_or(String::new(), |held| format!("; it held {held}"));
+    finish(&opened, carried, || put_words(slot, &record, opened.b()) + &held, out)
+}
+
+/// What a slot holds, in words; `None` where it is not used. Where the slot would not keep those blocks, from the first one on, only `--replace` puts it: no table would name that map any more.
+fn held_by(opened: &Opened, slot: u32, new: &Record, replace: bool) -> Outcome<Option<String>> {
+    // A slot that is none is refused by the put, in the library's words.
+    let there = if (1..=128).contains(&slot) { opened.checked(opened.card.get(slot))? } else { None };
+    let Some(old) = there else { return Ok(None) };
+    let size = words::size(words::bytes_of(old.first, old.last, opened.b()));
+    let kind = if old.type_guid == Guid::BASIC_DATA { String::new() } else { format!(", type {}", words::type_of(old.type_guid)) };
+    let held = format!("{}, blocks {} to {} ({size}){kind}", quoted(&old.name), old.first, old.last);
+    if replace || new.first == old.first && new.last >= old.last {
+        return Ok(Some(held));
+    }
+    Err(Failure::Refused(format!(
+        "slot {slot} not put: it holds {held}, and would not keep them. Nothing was changed. Say --replace to put it all the same, or next for a slot that is free"
+    )))
 }
 
 /// What was put, in words.
@@ -346,11 +356,10 @@ fn put_words(slot: u32, record: &Record, b: u64) -> String {
 
 /// Puts a record in stages, through one of them.
 pub fn put_record(opened: &mut Opened, slot: u32, record: &Record, last: u32) -> Outcome<Carried> {
-    let shown = opened.shown();
-    let dry = opened.card.get_ref().is_dry();
-    let result = begun(opened.card.start_put(slot, record), &shown, 4, dry)?;
+    let said = opened.said();
+    let result = begun(opened.card.start_put(slot, record), &said, 4)?;
     match result {
-        Ok(staged) => carry(staged, &shown, last, dry),
+        Ok(staged) => carry(staged, &said, last),
         Err(error) => {
             Err(opened.failure(error, |refusal| format!("slot {slot} not put: {}. Nothing was changed.", put_refusal(opened, slot, record, refusal))))
         }
@@ -459,17 +468,16 @@ pub fn clear(mut args: Args, out: &mut Out) -> Outcome {
         payload::wipe(&mut opened, slot, &record, &args, &mut notes)?;
         out.changed = true;
     }
-    let shown = opened.shown();
-    let dry = opened.card.get_ref().is_dry();
+    let file = opened.said();
     let zeros = format!("The bytes of slot {slot} are zeros already.");
-    let wiped = |failure: Failure| if args.has("wipe") && !dry { failure.with(&zeros) } else { failure };
-    let result = begun(opened.card.start_clear(slot), &shown, 4, dry).map_err(wiped)?;
+    let wiped = |failure: Failure| if args.has("wipe") && !file.dry { failure.with(&zeros) } else { failure };
+    let result = begun(opened.card.start_clear(slot), &file, 4).map_err(wiped)?;
     let carried = match result {
-        Ok(staged) => carry(staged, &shown, last, dry).map_err(wiped)?,
+        Ok(staged) => carry(staged, &file, last).map_err(wiped)?,
         Err(error) => return Err(opened.failure(error, said)),
     };
-    if opened.card.get_ref().is_dry() {
-        return dry::report(&opened.card, &shown, &notes, out);
+    if file.dry {
+        return dry::report(&opened.card, &file.shown, &notes, out);
     }
     if args.has("wipe") && carried.stage < carried.stages {
         out.line(format!("the bytes of slot {slot} are zeros already"));
@@ -501,13 +509,13 @@ pub fn repair(mut args: Args, out: &mut Out) -> Outcome {
     }
     let other = if from == Table::Front { Table::Back } else { Table::Front };
     let (from, other) = (name_of(from), name_of(other));
-    let dry = opened.card.get_ref().is_dry();
-    let staged = match begun(opened.card.start_repair(), &shown, stages, dry)? {
+    let said = opened.said();
+    let staged = match begun(opened.card.start_repair(), &said, stages)? {
         Ok(staged) => staged,
         Err(error) => return Err(io_words(&opened.path, error)),
     };
-    let Carried { stage, .. } = carry(staged, &shown, last, dry)?;
-    if opened.card.get_ref().is_dry() {
+    let Carried { stage, .. } = carry(staged, &said, last)?;
+    if said.dry {
         return dry::report(&opened.card, &shown, &[], out);
     }
     out.changed = true;
@@ -528,10 +536,10 @@ fn not_an_older_back(opened: &Opened, from: Table) -> Outcome {
         return Ok(());
     }
     Err(Failure::Refused(format!(
-        "{} not repaired: its front table is that of a card of {} blocks with other slots than the back one's. Nothing was changed. card grow {} keeps the front's slots, card repair --force the back's",
+        "{} not repaired: its front table is that of a card of {} blocks with other slots than the back one's. Nothing was changed. card grow {word} keeps the front's slots, card repair --force {word} the back's",
         opened.shown(),
         shorter.blocks(),
-        opened.word()
+        word = opened.word()
     )))
 }
 

@@ -1,4 +1,25 @@
-//! The C interface of libcard, whole: every struct and every function of include/card.h, by their C names. That header says what they mean.
+//! The C interface of libcard, whole: every struct and every function of include/card.h, by their C names. That header says what each means and by which numbers it refuses.
+//!
+//! The safe part of this crate makes the card calls; here are also the ported calls on headers, entries and the MBR, and the calls on text. An answer has its number first, 0 for
+//! accepted; beside a refusal its other fields are zero, but for the slot, the place or the byte that the number names.
+//!
+//! # Safety
+//!
+//! Every call takes every number and every content of the bytes. What it cannot see for itself its caller owes:
+//! - a pointer and the length behind it are one slice: never null, also where the length is 0, and aligned for its numbers;
+//! - a slice that a call writes, `*mut`, overlaps no other of that call, and no one else reads or writes it until the call returns; a slice that it only reads no one else writes;
+//! - a yes/no, a `u8` here, is 0 or 1;
+//! - there are 20,480 bytes of stack.
+//!
+//! ```
+//! use card::ffi::*;
+//!
+//! let mut words = [0; 160];
+//! // SAFETY: each pointer and length are those of one slice.
+//! let (sum, said) = unsafe { (gpt_crc32(b"123456789".as_ptr(), 9), card_message(words.as_mut_ptr(), words.len(), 22, 0, 1)) };
+//! assert_eq!(sum, 0xcbf4_3926);
+//! assert_eq!(&words[..said.length], b"refused 22, Overlap: a block that another slot has (slot 1)");
+//! ```
 #![allow(missing_docs, non_camel_case_types)]
 use core::mem::size_of;
 
@@ -41,6 +62,7 @@ macro_rules! place_of {
 macro_rules! structs {
     ($($name:ident $size:literal { $($place:literal $field:ident: $type:ty),* })*) => {
         $(
+            #[doc = concat!("`", stringify!($name), "` of include/card.h: ", stringify!($size), " bytes.")]
             #[repr(C)]
             #[derive(Clone, Copy, Debug, PartialEq, Eq)]
             pub struct $name { $(pub $field: $type),* }
@@ -58,7 +80,12 @@ macro_rules! structs {
 /// Declares functions of the header.
 macro_rules! functions {
     ($(fn $name:ident($($parameter:ident: $type:ty),*) $(-> $answer:ty)?;)*) => {
-        extern "C" { $(pub fn $name($($parameter: $type),*) $(-> $answer)?;)* }
+        extern "C" {
+            $(
+                #[doc = concat!("`", stringify!($name), "` of include/card.h.")]
+                pub fn $name($($parameter: $type),*) $(-> $answer)?;
+            )*
+        }
 
         /// Each function as it is declared, and where the library has it.
         #[cfg(test)]
@@ -132,6 +159,10 @@ structs! {
     gpt_bootcode 440 { 0 bytes: [u8; 440] }
     gpt_signature_read 8 { 0 number: u32, 4 disk_signature: [u8; 4] }
     gpt_signature 4 { 0 bytes: [u8; 4] }
+    card_version_numbers 12 { 0 major: u32, 4 minor: u32, 8 patch: u32 }
+    card_text 16 { 0 number: u32, 8 length: usize }
+    gpt_guid_of_text 32 { 0 number: u32, 8 at: usize, 16 guid: gpt_guid }
+    gpt_name_of_text 88 { 0 number: u32, 8 at: usize, 16 name: [u16; 36] }
 }
 
 functions! {
@@ -241,6 +272,12 @@ functions! {
     fn gpt_mbr_write_bootcode(img: *mut u8, img_len: usize, bootcode: gpt_bootcode) -> gpt_stored;
     fn gpt_mbr_read_disk_signature(img: *const u8, img_len: usize) -> gpt_signature_read;
     fn gpt_mbr_write_disk_signature(img: *mut u8, img_len: usize, signature: gpt_signature) -> gpt_stored;
+    fn card_version() -> card_version_numbers;
+    fn card_message(out: *mut u8, out_len: usize, number: u32, place: u32, slot: u32) -> card_text;
+    fn gpt_guid_to_text(out: *mut u8, out_len: usize, guid: gpt_guid) -> card_text;
+    fn gpt_guid_from_text(text: *const u8, text_len: usize) -> gpt_guid_of_text;
+    fn gpt_name_to_utf8(out: *mut u8, out_len: usize, name: *const u16, name_len: usize) -> card_text;
+    fn gpt_name_from_utf8(text: *const u8, text_len: usize) -> gpt_name_of_text;
 }
 
 impl card_row {
@@ -277,8 +314,9 @@ mod tests {
             "uint32_t" => "u32",
             "uint64_t" => "u64",
             "size_t" => "usize",
-            "uint8_t *" => "*mut u8",
-            "const uint8_t *" => "*const u8",
+            "uint8_t *" | "char *" => "*mut u8",
+            "const uint8_t *" | "const char *" => "*const u8",
+            "const uint16_t *" => "*const u16",
             "const uint32_t *" => "*const u32",
             "uint64_t *" => "*mut u64",
             of_the_header => of_the_header,
@@ -292,7 +330,7 @@ mod tests {
     /// A function's line of C in Rust's words.
     fn function_in_rust(line: &str) -> String {
         let (answer, parameters) = line.strip_suffix(");").and_then(|line| line.split_once('(')).expect(line);
-        let parameters: String = parameters.split(", ").map(|parameter| in_rust(parameter) + ", ").collect();
+        let parameters: String = parameters.split(", ").filter(|&parameter| parameter != "void").map(|parameter| in_rust(parameter) + ", ").collect();
         match in_rust(answer).split_once(": ").unwrap() {
             (name, "void") => format!("{name}({parameters})"),
             (name, answer) => format!("{name}({parameters}) -> {answer}"),
@@ -317,7 +355,7 @@ mod tests {
             } else if let Some(place) = inside("CARD_AT(", ");") {
                 let (field, place) = place.rsplit_once(", ").unwrap();
                 lines.push(format!("{} is at {place}", field.replace(", ", ".")));
-            } else if line.starts_with(|c: char| c.is_ascii_alphabetic()) && !line.starts_with("enum ") && !line.starts_with("extern ") {
+            } else if line.starts_with(|c: char| c.is_ascii_alphabetic()) && !["enum ", "extern ", "static "].iter().any(|word| line.starts_with(word)) {
                 lines.push(function_in_rust(line));
             }
         }

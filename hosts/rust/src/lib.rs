@@ -73,6 +73,13 @@ mod windows;
 /// The version of this crate, which is the library's.
 pub const VERSION: &str = env!("CARGO_PKG_VERSION");
 
+/// The version of the library that was linked: major, minor and patch.
+pub fn library_version() -> (u32, u32, u32) {
+    // SAFETY: the call takes nothing and gives numbers alone.
+    let version = unsafe { ffi::card_version() };
+    (version.major, version.minor, version.patch)
+}
+
 pub use calls::{check, crc32_next, free_runs, get, list, payload_place, read_payload, BlockSize, Card, Listing, FRESH, SLOTS};
 pub use files::{Device, FileCard, FileError, FileStaged, SyncBy};
 pub use guid::{Guid, GuidError};

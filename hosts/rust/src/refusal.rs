@@ -202,8 +202,10 @@ mod tests {
             Some(header) => header,
             None => return,
         };
+        // The enum behind it has the two numbers of the text calls, which no call of this crate makes.
+        let lines: Vec<&str> = header.lines().take_while(|line| !line.starts_with("enum card_text_number")).collect();
         let lines: Vec<&str> =
-            header.lines().filter(|line| line.starts_with("    CARD_") && !line.starts_with("    CARD_PLACE_") && line.contains(" = ")).collect();
+            lines.into_iter().filter(|line| line.starts_with("    CARD_") && !line.starts_with("    CARD_PLACE_") && line.contains(" = ")).collect();
         assert_eq!(lines.len(), 39);
         assert_eq!((Refusal::from_number(0, 0), Refusal::from_number(39, 0)), (None, None));
         for (number, line) in (1..).zip(&lines[1..]) {

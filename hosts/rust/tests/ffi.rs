@@ -1,5 +1,6 @@
 //! Calls of the C interface that the safe part of this crate does not make: structs of every kind cross both ways, in registers and in memory.
 use card::ffi::*;
+use card::{Guid, Name, Place, Refusal, Refused};
 
 const GUID: gpt_guid = gpt_guid { time_low: 0x5a3f_1c20, time_mid: 0x11e7, time_high: 0x4b6d, tail: [0x9c, 4, 2, 0x42, 0xac, 0x11, 0, 0] };
 
@@ -62,4 +63,88 @@ fn the_mbr_and_its_parts_cross() {
         assert_eq!((read.number, read.mbr), (0, gpt_mbr { disk_signature: *b"disk", ..set.mbr }));
         assert_eq!(gpt_mbr_read_bootcode(image.as_ptr(), 439), gpt_bootcode_read { number: 2, bootcode: [0; 440] });
     }
+}
+
+/// What a call stores in 160 lent bytes.
+fn told(call: impl Fn(*mut u8, usize) -> card_text) -> String {
+    let mut bytes = [0x5a; 160];
+    let text = call(bytes.as_mut_ptr(), bytes.len());
+    assert_eq!((text.number, bytes[text.length]), (0, 0));
+    assert!(bytes[text.length + 1..].iter().all(|byte| *byte == 0x5a));
+    String::from_utf8(bytes[..text.length].to_vec()).unwrap()
+}
+
+/// The words of the library for a refusal.
+fn words(number: u32, place: u32, slot: u32) -> String {
+    // SAFETY: `told` lends the bytes and their length.
+    told(|out, len| unsafe { card_message(out, len, number, place, slot) })
+}
+
+/// A refusal is said in the same words here and by the library, with every place and slot.
+#[test]
+fn the_words_of_a_refusal_are_the_librarys() {
+    for number in 1..=38 {
+        let slot = if number == 22 || number == 25 { 128 } else { 0 };
+        let refusal = Refusal::from_number(number, slot).unwrap();
+        assert_eq!(words(number, 0, slot), refusal.to_string());
+        let places: &[(u32, u32, Place)] = match number {
+            4 | 5 | 6 | 16 => &[(1, 0, Place::Front), (2, 0, Place::Back)],
+            17 => &[(3, 0, Place::DiskGuid), (4, 77, Place::Slot(77))],
+            _ => &[],
+        };
+        for (place, slot, at) in places {
+            assert_eq!(words(number, *place, *slot), Refused { refusal, place: Some(*at) }.to_string());
+        }
+    }
+    assert_eq!((words(0, 0, 0), words(41, 0, 0)), ("accepted".to_string(), "the library has no such number".to_string()));
+}
+
+#[test]
+fn a_guid_is_told_and_read_as_the_library_does() {
+    let texts = [
+        "ebd0a0a2-b9e5-4433-87c0-68b6b72699c7",
+        "EBD0A0A2-B9E5-4433-87C0-68B6B72699C7",
+        "",
+        "ebd0a0a2",
+        "ebd0a0a2-b9e5-4433-87c0-68b6b72699c7 ",
+        "{bd0a0a2-b9e5-4433-87c0-68b6b72699c}",
+        "ebd0a0a2_b9e5-4433-87c0-68b6b72699c7",
+    ];
+    for text in texts {
+        // SAFETY: the pointer and the length are those of one text.
+        let read = unsafe { gpt_guid_from_text(text.as_ptr(), text.len()) };
+        let (low, mid, high, tail) = (read.guid.time_low, read.guid.time_mid, read.guid.time_high, read.guid.tail);
+        match text.parse::<Guid>() {
+            Ok(guid) => {
+                assert_eq!((read.number, read.at, Guid::from_fields(low, mid, high, tail)), (0, 0, guid));
+                // SAFETY: `told` lends the bytes and their length.
+                assert_eq!(told(|out, len| unsafe { gpt_guid_to_text(out, len, read.guid) }), guid.to_string());
+            }
+            Err(_) => assert_eq!((read.number, Guid::from_fields(low, mid, high, tail)), (39, Guid::NIL), "{text}"),
+        }
+    }
+}
+
+#[test]
+fn a_name_is_told_and_read_as_the_library_does() {
+    let long = "x".repeat(37);
+    for text in ["", "map", "Nördlicher Grat \u{1f525}", "a\0b", &long, &long[1..], "\u{10ffff}\u{e000}\u{d7ff}"] {
+        // SAFETY: the pointer and the length are those of one text.
+        let read = unsafe { gpt_name_from_utf8(text.as_ptr(), text.len()) };
+        match Name::new(text) {
+            Ok(name) => assert_eq!((read.number, &read.name), (0, name.raw()), "{text}"),
+            Err(error) => assert_eq!(read.number, if error == card::NameError::Zero { 39 } else { 40 }, "{text}"),
+        }
+    }
+    let units = [0x41, 0xd83d, 0xdd25, 0xdc00, 0xd800, 0x42, 0];
+    let mut raw = [0; 36];
+    raw[..7].copy_from_slice(&units);
+    // SAFETY: `told` lends the bytes and their length, and the units are one slice.
+    assert_eq!(told(|out, len| unsafe { gpt_name_to_utf8(out, len, units.as_ptr(), units.len()) }), Name::from_raw(raw).to_string());
+}
+
+#[test]
+fn the_version_is_the_librarys() {
+    let (major, minor, patch) = card::library_version();
+    assert_eq!(format!("{major}.{minor}.{patch}"), card::VERSION);
 }

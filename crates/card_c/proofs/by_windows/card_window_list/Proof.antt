@@ -7,7 +7,8 @@ use lib.ListN.{length}
 use Rattle.listing.specs.LentRow.{cardEntries, listingRead}
 use Rattle.listing.proofs.LentRow.{listed-within}
 use Rattle.card_c.specs.CardExports.{cardCountToC}
-use Rattle.card_c.proofs.Laws.{rows-told, window-within}
+use Rattle.answers_c.proofs.Laws.{rows-told}
+use Rattle.card_c.proofs.Laws.{window-within}
 use Rattle.card_c.proofs.by_windows.card_window_list.Statement.{statement}
 use Rattle.card_c.proofs.by_windows.card_window_list.Tie as tie
 

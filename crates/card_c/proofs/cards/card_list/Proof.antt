@@ -3,7 +3,7 @@ use mathlib.Core.Path.{ap, _∙_}
 use borrow.Author.Needs.{needs}
 use Rattle.listing.proofs.LentRow.{listed-within}
 use Rattle.card_c.specs.CardExports.{cardCountToC}
-use Rattle.card_c.proofs.Laws.{rows-told}
+use Rattle.answers_c.proofs.Laws.{rows-told}
 use Rattle.card_c.proofs.cards.card_list.Statement.{statement}
 use Rattle.card_c.proofs.cards.card_list.Tie as tie
 

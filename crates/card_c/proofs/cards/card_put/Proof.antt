@@ -1,6 +1,6 @@
 -- `cards::card_put` meets its contract. Assumes nothing.
 use Rattle.card_c.specs.CardExports.{answerToC}
-use Rattle.card_c.proofs.Laws.{told-ends}
+use Rattle.answers_c.proofs.Laws.{told-ends}
 use borrow.Author.Needs.{needs}
 use Rattle.card_c.proofs.cards.card_put.Statement.{statement}
 use Rattle.card_c.proofs.cards.card_put.Tie as tie

@@ -1,7 +1,7 @@
 -- `cards::card_read_payload` meets its contract. Assumes nothing.
 use borrow.Author.Needs.{needs}
 use Rattle.card_c.specs.CardExports.{cardStoredToC}
-use Rattle.card_c.proofs.Laws.{told-ends}
+use Rattle.answers_c.proofs.Laws.{told-ends}
 use Rattle.card_c.proofs.cards.card_read_payload.Statement.{statement}
 use Rattle.card_c.proofs.cards.card_read_payload.Tie as tie
 

@@ -1,6 +1,6 @@
 -- `cards::card_write_payload` meets its contract. Assumes nothing.
 use Rattle.card_c.specs.CardExports.{cardStoredToC}
-use Rattle.card_c.proofs.Laws.{told-ends}
+use Rattle.answers_c.proofs.Laws.{told-ends}
 use borrow.Author.Needs.{needs}
 use Rattle.card_c.proofs.cards.card_write_payload.Statement.{statement}
 use Rattle.card_c.proofs.cards.card_write_payload.Tie as tie

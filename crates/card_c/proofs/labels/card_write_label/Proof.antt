@@ -1,7 +1,7 @@
 -- `labels::card_write_label` meets its contract. Assumes nothing.
 use borrow.Author.Needs.{needs}
 use Rattle.card_c.specs.CardExports.{answerToC}
-use Rattle.card_c.proofs.Laws.{told-ends}
+use Rattle.answers_c.proofs.Laws.{told-ends}
 use Rattle.card_c.proofs.labels.card_write_label.Statement.{statement}
 use Rattle.card_c.proofs.labels.card_write_label.Tie as tie
 

@@ -1,6 +1,6 @@
 -- `maps::card_map_lowest_free` meets its contract. Assumes nothing.
 use mathlib.Core.Path.{ap, _∙_}
-use Rattle.card_c.specs.Exports.{freeToC}
+use Rattle.card_c.specs.CardExports.{freeToC}
 use borrow.Author.Needs.{needs}
 use Rattle.card_c.proofs.maps.card_map_lowest_free.Statement.{statement}
 use Rattle.card_c.proofs.maps.card_map_lowest_free.Tie as tie

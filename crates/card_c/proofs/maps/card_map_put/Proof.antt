@@ -3,7 +3,7 @@ use mathlib.Core.Path.{ap, _∙_}
 use Rattle.slot_map.specs.Bits.{mapOf}
 use Rattle.card_c.specs.declared.maps.CardCarried.{CardCarried}
 use Rattle.card_c.specs.CardExports.{answerToC}
-use Rattle.card_c.proofs.Laws.{told-ends}
+use Rattle.answers_c.proofs.Laws.{told-ends}
 use borrow.Author.Needs.{needs}
 use Rattle.card_c.proofs.maps.card_map_put.Statement.{statement}
 use Rattle.card_c.proofs.maps.card_map_put.Tie as tie

@@ -1,7 +1,7 @@
 -- `maps::free_to_c` meets its contract. Assumes nothing.
 use mathlib.Core.Path.{ap}
 use Rattle.units.specs.Meanings.{slotMeans}
-use Rattle.card_c.proofs.Laws.{crossed-fine, crossed-no}
+use Rattle.answers_c.proofs.Laws.{crossed-fine, crossed-no}
 use borrow.Author.Needs.{needs}
 use Rattle.card_c.proofs.maps.free_to_c.Statement.{statement}
 use Rattle.card_c.proofs.maps.free_to_c.Tie as tie

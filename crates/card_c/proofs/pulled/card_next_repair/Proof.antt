@@ -1,7 +1,7 @@
 -- `pulled::card_next_repair` meets its contract. Assumes nothing.
 use borrow.Author.Needs.{needs}
 use Rattle.card_c.specs.CardExports.{repairToC}
-use Rattle.card_c.proofs.Laws.{told-ends}
+use Rattle.answers_c.proofs.Laws.{told-ends}
 use Rattle.card_c.proofs.pulled.card_next_repair.Statement.{statement}
 use Rattle.card_c.proofs.pulled.card_next_repair.Tie as tie
 

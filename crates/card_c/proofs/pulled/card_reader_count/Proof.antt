@@ -1,7 +1,7 @@
 -- `pulled::card_reader_count` meets its contract. Assumes nothing.
 use mathlib.Core.Path.{ap, _∙_}
 use borrow.Author.Needs.{needs}
-use Rattle.card_c.specs.Exports.{countToC}
+use Rattle.answers_c.specs.Crossing.{countToC}
 use Rattle.card_c.proofs.pulled.card_reader_count.Statement.{statement}
 use Rattle.card_c.proofs.pulled.card_reader_count.Tie as tie
 

@@ -2,8 +2,8 @@
 use mathlib.Core.Path.{ap, _∙_}
 use borrow.Author.Needs.{needs}
 use Rattle.reader.proofs.LentRow.{read-within}
-use Rattle.card_c.specs.Exports.{countToC}
-use Rattle.card_c.proofs.Laws.{rows-told, count-plainly}
+use Rattle.answers_c.specs.Crossing.{countToC}
+use Rattle.answers_c.proofs.Laws.{rows-told, count-plainly}
 use Rattle.card_c.proofs.pulled.card_reader_list.Statement.{statement}
 use Rattle.card_c.proofs.pulled.card_reader_list.Tie as tie
 

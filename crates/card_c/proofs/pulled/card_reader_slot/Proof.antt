@@ -1,8 +1,8 @@
 -- `pulled::card_reader_slot` meets its contract. Assumes nothing.
 use mathlib.Core.Path.{ap, _∙_}
 use borrow.Author.Needs.{needs}
-use Rattle.card_c.specs.Exports.{aside, heldMade}
-use Rattle.card_c.proofs.Laws.{aside-crossed}
+use Rattle.answers_c.specs.Crossing.{aside, heldMade}
+use Rattle.answers_c.proofs.Laws.{aside-crossed}
 use Rattle.card_c.proofs.pulled.card_reader_slot.Statement.{statement}
 use Rattle.card_c.proofs.pulled.card_reader_slot.Tie as tie
 

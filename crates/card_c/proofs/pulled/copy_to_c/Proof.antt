@@ -1,7 +1,7 @@
 -- `pulled::copy_to_c` meets its contract. Assumes nothing.
 use mathlib.Core.Path.{ap}
 use Rattle.reader.specs.Meanings.{copyMeans}
-use Rattle.card_c.proofs.Laws.{crossed-fine, crossed-no}
+use Rattle.answers_c.proofs.Laws.{crossed-fine, crossed-no}
 use borrow.Author.Needs.{needs}
 use Rattle.card_c.proofs.pulled.copy_to_c.Statement.{statement}
 use Rattle.card_c.proofs.pulled.copy_to_c.Tie as tie

@@ -1,7 +1,7 @@
 -- `pulled_windows::card_window_reader_copy` meets its contract. Assumes nothing.
 use mathlib.Core.Path.{ap, _∙_}
 use borrow.Author.Needs.{needs}
-use Rattle.card_c.specs.Exports.{copyToC}
+use Rattle.card_c.specs.CardExports.{copyToC}
 use Rattle.card_c.proofs.pulled_windows.card_window_reader_copy.Statement.{statement}
 use Rattle.card_c.proofs.pulled_windows.card_window_reader_copy.Tie as tie
 

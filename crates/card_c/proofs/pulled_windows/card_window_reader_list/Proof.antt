@@ -7,8 +7,9 @@ use lib.ListN.{length}
 use Rattle.rows.specs.Plans.{Made, planned}
 use Rattle.reader.specs.Reader.{readerEntries, readerRead}
 use Rattle.reader.proofs.LentRow.{read-within}
-use Rattle.card_c.specs.Exports.{countToC}
-use Rattle.card_c.proofs.Laws.{rows-told, window-within, count-plainly}
+use Rattle.answers_c.specs.Crossing.{countToC}
+use Rattle.answers_c.proofs.Laws.{rows-told, count-plainly}
+use Rattle.card_c.proofs.Laws.{window-within}
 use Rattle.card_c.proofs.pulled_windows.card_window_reader_list.Statement.{statement}
 use Rattle.card_c.proofs.pulled_windows.card_window_reader_list.Tie as tie
 

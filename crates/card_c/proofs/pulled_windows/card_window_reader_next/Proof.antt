@@ -1,7 +1,7 @@
 -- `pulled_windows::card_window_reader_next` meets its contract. Assumes nothing.
 use mathlib.Core.Path.{ap, _∙_}
 use borrow.Author.Needs.{needs}
-use Rattle.card_c.specs.Exports.{nextToC}
+use Rattle.answers_c.specs.Crossing.{nextToC}
 use Rattle.card_c.proofs.pulled_windows.card_window_reader_next.Statement.{statement}
 use Rattle.card_c.proofs.pulled_windows.card_window_reader_next.Tie as tie
 

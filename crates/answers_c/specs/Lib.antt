@@ -1,0 +1,2 @@
+-- The definitions that the contracts of the answers for C cite.
+pub mod Crossing

@@ -1,0 +1,2 @@
+-- The laws of the answers that cross.
+pub mod Laws

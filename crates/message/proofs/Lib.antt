@@ -1,0 +1,3 @@
+-- The laws of the definitions of `message`.
+pub mod LineLaws
+pub mod Laws

@@ -1,0 +1,4 @@
+-- The definitions that the contracts of `names` cite.
+pub mod Utf8
+pub mod NameTexts
+pub mod Examples

@@ -1,0 +1,2 @@
+-- The laws of the definitions of `text`.
+pub mod Laws

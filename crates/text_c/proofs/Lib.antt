@@ -1,0 +1,2 @@
+-- The laws of the definitions of `text_c`.
+pub mod Laws
