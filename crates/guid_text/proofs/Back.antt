@@ -11,6 +11,7 @@ use borrow.Author.Tests.{ltb-true, ltb-false, lt-ltb, le-ltb, le-leb, lt-leb, eq
 use Rattle.units.specs.declared.Tail.{Tail}
 use Rattle.units.specs.declared.Guid.{Guid}
 use Rattle.units.specs.Answer.{pick}
+use Rattle.units.specs.Held.{GuidHeld}
 use Rattle.units.specs.Bytes.{part}
 use Rattle.text.specs.Digits.{digitOf, digits}
 use Rattle.text.proofs.Laws.{in-between, above}
@@ -66,59 +67,45 @@ hex-two y = rw (digit-back (y / 16), digit-back y) (omega arith)
 
 -- ---- the whole text
 
--- the fields of a GUID fit their widths
-pub record Fits (g : Guid) : Type 0 where
-  pub low : g .«time_low» < 16 ^ 8
-  pub mid : g .«time_mid» < 16 ^ 4
-  pub high : g .«time_high» < 16 ^ 4
-  pub t0 : g .tail .0 < 256
-  pub t1 : g .tail .1 < 256
-  pub t2 : g .tail .2 < 256
-  pub t3 : g .tail .3 < 256
-  pub t4 : g .tail .4 < 256
-  pub t5 : g .tail .5 < 256
-  pub t6 : g .tail .6 < 256
-  pub t7 : g .tail .7 < 256
-
 all-right : (g : Guid) → wrongFrom (guidText g) 0 36 ≡ 36
 unfolding wrongFrom rightAt dashPlace guidText digits
 all-right g = simp digit-right
 
 -- the three numbers
-low-back : (g : Guid) → Fits g → hexIn (guidText g) 0 8 ≡ g .«time_low»
+low-back : (g : Guid) → GuidHeld g → hexIn (guidText g) 0 8 ≡ g .«time_low»
 unfolding guidText digits
-low-back g f = hex-back 8 (g .«time_low») 0 (f .low) ∙ omega arith
+low-back g f = hex-back 8 (g .«time_low») 0 (f .fields .low) ∙ omega arith
 
-mid-back : (g : Guid) → Fits g → hexIn (guidText g) 9 4 ≡ g .«time_mid»
+mid-back : (g : Guid) → GuidHeld g → hexIn (guidText g) 9 4 ≡ g .«time_mid»
 unfolding guidText digits
-mid-back g f = hex-back 4 (g .«time_mid») 0 (f .mid) ∙ omega arith
+mid-back g f = hex-back 4 (g .«time_mid») 0 (f .fields .mid) ∙ omega arith
 
-high-back : (g : Guid) → Fits g → hexIn (guidText g) 14 4 ≡ g .«time_high»
+high-back : (g : Guid) → GuidHeld g → hexIn (guidText g) 14 4 ≡ g .«time_high»
 unfolding guidText digits
-high-back g f = hex-back 4 (g .«time_high») 0 (f .high) ∙ omega arith
+high-back g f = hex-back 4 (g .«time_high») 0 (f .fields .high) ∙ omega arith
 
 -- the eight bytes
-tail-back : (g : Guid) → Fits g → tailIn (guidText g) ≡ g .tail
+tail-back : (g : Guid) → GuidHeld g → tailIn (guidText g) ≡ g .tail
 unfolding tailIn guidText digits big
 tail-back g f =
     let t = g .tail in
     let c = (0 * 256 + t .0) * 256 + t .1 in
     let n = (((((0 * 256 + t .2) * 256 + t .3) * 256 + t .4) * 256 + t .5) * 256 + t .6) * 256 + t .7 in
-    let e0 : hexIn (guidText g) 19 2 ≡ t .0 = hex-two (c / 16 / 16) ∙ omega (arith, f .t0, f .t1) in
-    let e1 : hexIn (guidText g) 21 2 ≡ t .1 = hex-two c ∙ omega (arith, f) in
-    let e2 : hexIn (guidText g) 24 2 ≡ t .2 = hex-two (n / 16 / 16 / 16 / 16 / 16 / 16 / 16 / 16 / 16 / 16) ∙ omega (arith, f) in
-    let e3 : hexIn (guidText g) 26 2 ≡ t .3 = hex-two (n / 16 / 16 / 16 / 16 / 16 / 16 / 16 / 16) ∙ omega (arith, f) in
-    let e4 : hexIn (guidText g) 28 2 ≡ t .4 = hex-two (n / 16 / 16 / 16 / 16 / 16 / 16) ∙ omega (arith, f) in
-    let e5 : hexIn (guidText g) 30 2 ≡ t .5 = hex-two (n / 16 / 16 / 16 / 16) ∙ omega (arith, f) in
-    let e6 : hexIn (guidText g) 32 2 ≡ t .6 = hex-two (n / 16 / 16) ∙ omega (arith, f) in
-    let e7 : hexIn (guidText g) 34 2 ≡ t .7 = hex-two n ∙ omega (arith, f .t7) in
+    let e0 : hexIn (guidText g) 19 2 ≡ t .0 = hex-two (c / 16 / 16) ∙ omega (arith, f .tail 0, f .tail 1) in
+    let e1 : hexIn (guidText g) 21 2 ≡ t .1 = hex-two c ∙ omega (arith, f .tail 1) in
+    let e2 : hexIn (guidText g) 24 2 ≡ t .2 = hex-two (n / 16 / 16 / 16 / 16 / 16 / 16 / 16 / 16 / 16 / 16) ∙ omega (arith, f .tail 2, f .tail 3, f .tail 4, f .tail 5, f .tail 6, f .tail 7) in
+    let e3 : hexIn (guidText g) 26 2 ≡ t .3 = hex-two (n / 16 / 16 / 16 / 16 / 16 / 16 / 16 / 16) ∙ omega (arith, f .tail 3, f .tail 4, f .tail 5, f .tail 6, f .tail 7) in
+    let e4 : hexIn (guidText g) 28 2 ≡ t .4 = hex-two (n / 16 / 16 / 16 / 16 / 16 / 16) ∙ omega (arith, f .tail 4, f .tail 5, f .tail 6, f .tail 7) in
+    let e5 : hexIn (guidText g) 30 2 ≡ t .5 = hex-two (n / 16 / 16 / 16 / 16) ∙ omega (arith, f .tail 5, f .tail 6, f .tail 7) in
+    let e6 : hexIn (guidText g) 32 2 ≡ t .6 = hex-two (n / 16 / 16) ∙ omega (arith, f .tail 6, f .tail 7) in
+    let e7 : hexIn (guidText g) 34 2 ≡ t .7 = hex-two n ∙ omega (arith, f .tail 7) in
     rw (e0, e1, e2, e3, e4, e5, e6, e7)
 
-guid-in-back : (g : Guid) → Fits g → guidIn (guidText g) ≡ g
+guid-in-back : (g : Guid) → GuidHeld g → guidIn (guidText g) ≡ g
 unfolding guidIn
 guid-in-back g f = rw (low-back g f, mid-back g f, high-back g f, tail-back g f)
 
 -- the text of a GUID is read as that GUID
-pub guid-back : (g : Guid) → Fits g → guidOfText (guidText g) ≡ record { number = 0; at = 0; guid = g }
+pub guid-back : (g : Guid) → GuidHeld g → guidOfText (guidText g) ≡ record { number = 0; at = 0; guid = g }
 unfolding guidOfText
 guid-back g f = rw (all-right g, length-text g, guid-in-back g f)

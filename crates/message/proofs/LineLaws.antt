@@ -12,6 +12,7 @@ use lib.Seq.{drop-cons, take-suc, getD-drop, sets}
 use borrow.Author.Tests.{leb-true, ne-eqb, not-true}
 use Rattle.units.specs.Answer.{pick}
 use Rattle.units.specs.Bytes.{part}
+use Rattle.units.proofs.Laws.{and-both}
 use Rattle.text.specs.Texts.{ascii}
 use Rattle.message.specs.Lines.{leftBehind, behind, firstLine, lineAt, joined}
 use Rattle.message.specs.Words.{textIn}
@@ -76,13 +77,6 @@ line-found xs k start end e f = f ∙ ap firstLine e
 
 -- ---- joined texts
 
-unlike : false ≡ true → ⊥
-unlike q = let o : _≡_ {A = ℕ} 0 1 = cc in omega arith
-
-both : (a b : Bool) → a && b ≡ true → (a ≡ true) × (b ≡ true)
-both true b e = (refl, e)
-both false b e = absurd (unlike e)
-
 -- no byte ends a line
 abbrev pub plain : List ℕ → Bool
 plain [] = true
@@ -92,14 +86,14 @@ first-plain : (xs ys : List ℕ) → plain xs ≡ true → firstLine (xs ++ (10 
 unfolding firstLine
 first-plain [] ys e = refl
 first-plain (x ∷ xs) ys e =
-    let p = both (not (eqb x 10)) (plain xs) e in
+    let p = and-both (not (eqb x 10)) (plain xs) e in
     rw (not-true (eqb x 10) (p .0)) (ap (λ (r : List ℕ). x ∷ r) (first-plain xs ys (p .1)))
 
 behind-plain : (k : ℕ) (xs ys : List ℕ) → plain xs ≡ true → behind (suc k) (xs ++ (10 ∷ ys)) ≡ behind k ys
 unfolding behind
 behind-plain k [] ys e = refl
 behind-plain k (x ∷ xs) ys e =
-    let p = both (not (eqb x 10)) (plain xs) e in
+    let p = and-both (not (eqb x 10)) (plain xs) e in
     rw (not-true (eqb x 10) (p .0)) (behind-plain k xs ys (p .1))
 
 -- each text is one line, and short
@@ -111,16 +105,16 @@ good (t ∷ ts) = plain (ascii t) && (leb (length (ascii t)) 140 && good ts)
 pub line-is : (ts : List String) (k : ℕ) → good ts ≡ true → k < length ts → lineAt (joined ts) k ≡ textIn ts k
 unfolding joined textIn
 line-is [] k g h = absurd (omega (arith, h))
-line-is (t ∷ ts) zero g h = rw (behind-none (ascii t ++ (10 ∷ joined ts))) (first-plain (ascii t) (joined ts) (both (plain (ascii t)) _ g .0))
+line-is (t ∷ ts) zero g h = rw (behind-none (ascii t ++ (10 ∷ joined ts))) (first-plain (ascii t) (joined ts) (and-both (plain (ascii t)) _ g .0))
 line-is (t ∷ ts) (suc k) g h =
-    let p = both (plain (ascii t)) _ g in
-    rw (behind-plain k (ascii t) (joined ts) (p .0)) (line-is ts k (both (leb (length (ascii t)) 140) (good ts) (p .1) .1) (omega (arith, h)))
+    let p = and-both (plain (ascii t)) _ g in
+    rw (behind-plain k (ascii t) (joined ts) (p .0)) (line-is ts k (and-both (leb (length (ascii t)) 140) (good ts) (p .1) .1) (omega (arith, h)))
 
 pub line-short : (ts : List String) (k : ℕ) → good ts ≡ true → k < length ts → length (textIn ts k) ≤ 140
 unfolding textIn
 line-short [] k g h = absurd (omega (arith, h))
-line-short (t ∷ ts) zero g h = leb-true _ _ (both (leb (length (ascii t)) 140) (good ts) (both (plain (ascii t)) _ g .1) .0)
-line-short (t ∷ ts) (suc k) g h = line-short ts k (both (leb (length (ascii t)) 140) (good ts) (both (plain (ascii t)) _ g .1) .1) (omega (arith, h))
+line-short (t ∷ ts) zero g h = leb-true _ _ (and-both (leb (length (ascii t)) 140) (good ts) (and-both (plain (ascii t)) _ g .1) .0)
+line-short (t ∷ ts) (suc k) g h = line-short ts k (and-both (leb (length (ascii t)) 140) (good ts) (and-both (plain (ascii t)) _ g .1) .1) (omega (arith, h))
 
 pub line-fits : (ts : List String) (k : ℕ) → good ts ≡ true → k < length ts → length (lineAt (joined ts) k) ≤ 140
 line-fits ts k g h = rw (line-is ts k g h) (line-short ts k g h)

@@ -74,7 +74,8 @@ fn compose(out: &mut [u8; 160], number: u32, place: u32, slot: u32) -> usize
     slots::put_slot(out, n, line, slot)
 }
 
-// Stores the words of a number, the place and the slot that it names, and a zero behind them: 2 where there is no room. A place that a number does not have is left out; a slot is told wherever it is not 0 and the line has no table or slot of its own.
+// Stores the words of a number, its place and its slot, and a zero behind them: 2 where there is no room. A place that the number does not have is left out;
+// a slot is told wherever it is not 0 and the line has no table or slot of its own.
 pub fn message(out: &mut [u8], number: u32, place: u32, slot: u32) -> Stored
     ensures { λ r. ⌜ Ends (textStored (now (out .entry)) (messageText number place slot)) (storedMeans r) (now (out .exit)) ⌝ }
 {

@@ -1,6 +1,6 @@
 -- Both ways out of handing over a text, digits that are stored one by one, and numbers in a range. Assumes nothing.
 use mathlib.Core.Path.{_≡_, refl, ap, _∙_}
-use mathlib.Core.Bool.{Bool, true, false, _&&_}
+use mathlib.Core.Bool.{true, false}
 use mathlib.Core.List.{List, [], _∷_}
 use mathlib.Core.Logic.{_⊎_, inl, inr}
 use Prim.Native.Nat.{ℕ, zero, suc, _+_, _-_, _/_, _%_, _≤_, _<_}
@@ -10,6 +10,7 @@ use borrow.Author.Tests.{lt-ltb, le-ltb, le-leb, lt-leb, leb-true}
 use lib.ListN.{length, set, length-append}
 use lib.Seq.{sets}
 use Rattle.units.specs.Answer.{accepted, refuse, Ends, ends}
+use Rattle.units.proofs.Laws.{and-both}
 use Rattle.units.proofs.Lists.{sets-comm, sets-then, and-then}
 use Rattle.text.specs.Digits.{digitOf, digits}
 use Rattle.text.specs.Ranges.{between}
@@ -44,13 +45,6 @@ unfolding digits
 no-digits s at base v = refl
 
 -- ---- ranges
-
-unlike : false ≡ true → ⊥
-unlike q = let o : _≡_ {A = ℕ} 0 1 = cc in omega arith
-
-and-both : (a b : Bool) → a && b ≡ true → (a ≡ true) × (b ≡ true)
-and-both true b e = (refl, e)
-and-both false b e = absurd (unlike e)
 
 pub between-true : (a x b : ℕ) → between a x b ≡ true → (a ≤ x) × (x ≤ b)
 unfolding between

@@ -10,7 +10,8 @@ ghost use Rattle.text.specs.Texts.{textStored};
 ghost use Rattle.guid_text.specs.GuidTexts.{guidText, guidOfText};
 ghost use Rattle.message.specs.Words.{messageText};
 ghost use Rattle.names.specs.NameTexts.{nameText, nameOfText};
-ghost use Rattle.text_c.specs.Exports.{version, textToC, outcomeToC};
+ghost use Rattle.answers_c.specs.Crossing.{outcomeToC};
+ghost use Rattle.text_c.specs.Exports.{version, textToC};
 
 // The version of the library.
 #[repr(C)]
@@ -57,7 +58,7 @@ pub extern "C" fn card_version() -> CardVersion
 // The words of a number, the place and the slot that it names, and a zero behind them: 2.
 #[no_mangle]
 pub extern "C" fn card_message(out: &mut [u8], number: u32, place: u32, slot: u32) -> CardText
-    ensures { λ r. ⌜ Ends (outcomeToC (textStored (now (out .entry)) (messageText number place slot))) r (now (out .exit)) ⌝ }
+    ensures { λ r. ⌜ Ends (outcomeToC textToC (textStored (now (out .entry)) (messageText number place slot))) r (now (out .exit)) ⌝ }
 {
     text_to_c(message::message(out, number, place, slot))
 }
@@ -65,7 +66,7 @@ pub extern "C" fn card_message(out: &mut [u8], number: u32, place: u32, slot: u3
 // The text of a GUID and a zero behind it: 2.
 #[no_mangle]
 pub extern "C" fn gpt_guid_to_text(out: &mut [u8], guid: Guid) -> CardText
-    ensures { λ r. ⌜ Ends (outcomeToC (textStored (now (out .entry)) (guidText guid))) r (now (out .exit)) ⌝ }
+    ensures { λ r. ⌜ Ends (outcomeToC textToC (textStored (now (out .entry)) (guidText guid))) r (now (out .exit)) ⌝ }
 {
     text_to_c(guid_text::guid_to_text(out, guid))
 }
@@ -81,7 +82,7 @@ pub extern "C" fn gpt_guid_from_text(text: &[u8]) -> GuidOfText
 // A name in UTF-8 and a zero behind it: 2.
 #[no_mangle]
 pub extern "C" fn gpt_name_to_utf8(out: &mut [u8], name: &[u16]) -> CardText
-    ensures { λ r. ⌜ Ends (outcomeToC (textStored (now (out .entry)) (nameText (now (name .entry))))) r (now (out .exit)) ⌝ }
+    ensures { λ r. ⌜ Ends (outcomeToC textToC (textStored (now (out .entry)) (nameText (now (name .entry))))) r (now (out .exit)) ⌝ }
 {
     text_to_c(names::name_to_utf8(out, name))
 }

@@ -1,5 +1,6 @@
 -- `text_c::gpt_name_to_utf8` meets its contract. Assumes nothing.
-use Rattle.text_c.proofs.Laws.{told}
+use Rattle.answers_c.proofs.Laws.{told-ends}
+use Rattle.text_c.specs.Exports.{textToC}
 use borrow.Author.Needs.{needs}
 use Rattle.text_c.proofs.gpt_name_to_utf8.Statement.{statement}
 use Rattle.text_c.proofs.gpt_name_to_utf8.Tie as tie
@@ -14,7 +15,7 @@ same-length : tie.Need-same-length
 same-length c = search needs
 
 returns : tie.Need-returns
-returns c = told (c .before .before .before .name-to-utf8 .ensures) (c .text-to-c .ensures)
+returns c = told-ends textToC _ (c .before .before .before .name-to-utf8 .ensures) (c .text-to-c .ensures)
 
 pub gpt-name-to-utf8-spec : {M : Type 1} → statement M
 gpt-name-to-utf8-spec =

@@ -1,2 +1,0 @@
--- The laws of the definitions of `text_c`.
-pub mod Laws
