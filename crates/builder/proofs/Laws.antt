@@ -2,16 +2,14 @@
 -- agree, and that a copied builder builds the same header again. No contract cites this file. Assumes nothing.
 use mathlib.Core.Path.{◌≡◌, refl, sym, ap, subst, ◌∙◌}
 use mathlib.Core.Bool.{Bool, true, false, not}
-use mathlib.Core.Logic.{⊎_elim}
 use Prim.Native.Nat.{ℕ, ◌+◌, ◌*◌, ◌-◌, ◌/◌, ◌^◌, ◌≤◌, ◌<◌}
-use native.Mathlib.Nat.{mul-le-mul, mul-le-mul_left, div-lt_iff_lt-mul}
+use native.Mathlib.Nat.{mul-le-mul_left, div-lt_iff_lt-mul}
 use native.Mathlib.Omega.{arith}
 use lib.Dec.{ltb, leb}
 use borrow.Author.Tests.{lt-ltb, le-ltb, le-leb, lt-leb, ltb-true, ltb-false, leb-false, not-false}
 use Rattle.units.specs.declared.Lba.{Lba}
 use Rattle.units.specs.Answer.{Answer, accepted, refuse, pick}
 use Rattle.units.specs.Places.{good_size}
-use Rattle.units.proofs.Laws.{good-size}
 use Rattle.header.specs.declared.Header.{Header}
 use Rattle.builder.specs.declared.HeaderBuilder.{HeaderBuilder}
 use Rattle.builder.specs.Building.{of_header, sides_of, with_primary, with_first_usable, with_last_usable, greater, blocks_for, before_array, header_of, built_with, built}

@@ -1,5 +1,2 @@
--- The laws of the header builder and of its setters, for this crate's proofs and for those of the crates above it.
+-- The laws of the header builder, for this crate's proofs.
 pub mod Laws
-pub mod Setter
-pub mod Lender
-pub mod Settings

@@ -1,6 +1,8 @@
 // The header builder: set by value or where it stands, and the header that it builds.
 #![tactic(auto)]
 
+pub mod lending; // lending.rt: what every lent setter and every caller of one promise
+
 ghost use Rattle.std.specs.Prelude.{◌≡◌, ◌+◌, ◌<◌, ◌≤◌, ◌^◌};
 ghost use Rattle.builder.specs.Building.{new_builder, of_header, built, greater, blocks_for, sides_of, before_array, header_of};
 ghost use Rattle.builder.specs.Building.{with_primary, with_disk_guid, with_backup_lba, with_first_usable, with_last_usable, with_num_parts, with_part_size};

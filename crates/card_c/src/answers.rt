@@ -133,6 +133,7 @@ pub fn reason_to_c(r: Reason) -> CardAnswer
     }
 }
 
+#[tactic(auto, unfolding(crate::specs::CardExports::crossed_at))]
 pub fn answer_to_c(v: CardVerdict) -> CardAnswer
     ensures { result ≡ answer_to_c (card_means v) }
 {
@@ -147,6 +148,7 @@ pub fn answer_to_c(v: CardVerdict) -> CardAnswer
     }
 }
 
+#[tactic(auto, unfolding(crate::specs::CardExports::crossed_at))]
 pub fn card_stored_to_c(r: units::CardStored) -> CardStored
     ensures { result ≡ card_stored_to_c (card_stored_means r) }
 {
@@ -169,6 +171,7 @@ pub fn card_stored_to_c(r: units::CardStored) -> CardStored
     }
 }
 
+#[tactic(auto, unfolding(crate::specs::CardExports::crossed_at))]
 pub fn spot_to_c(r: Spot) -> CardSpot
     ensures { result ≡ spot_to_c (spot_means r) }
 {
@@ -191,6 +194,7 @@ pub fn spot_to_c(r: Spot) -> CardSpot
     }
 }
 
+#[tactic(auto, unfolding(crate::specs::CardExports::crossed_at))]
 pub fn card_count_to_c(r: listing::CardCount) -> CardCount
     ensures { result ≡ card_count_to_c (card_count_means r) }
 {
@@ -213,6 +217,7 @@ pub fn card_count_to_c(r: listing::CardCount) -> CardCount
     }
 }
 
+#[tactic(auto, unfolding(crate::specs::CardExports::crossed_at))]
 pub fn card_next_to_c(r: listing::CardNext) -> CardNext
     ensures { result ≡ card_next_to_c (card_next_means r) }
 {
@@ -241,6 +246,7 @@ pub fn card_next_to_c(r: listing::CardNext) -> CardNext
     }
 }
 
+#[tactic(auto, unfolding(crate::specs::CardExports::aside_at))]
 pub fn card_slot_to_c(r: listing::SlotRead) -> CardSlotRead
     ensures { result ≡ aside_at card_held_made (slot_means r) }
 {
@@ -256,6 +262,7 @@ pub fn card_slot_to_c(r: listing::SlotRead) -> CardSlotRead
     }
 }
 
+#[tactic(auto, unfolding(crate::specs::CardExports::aside_at))]
 pub fn used_to_c(r: listing::UsedRead) -> CardUsedRead
     ensures { result ≡ aside_at used_made (used_means r) }
 {

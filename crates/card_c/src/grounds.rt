@@ -7,6 +7,7 @@ use crate::answers;
 use crate::answers::CardCount;
 use ground::RunCount;
 
+#[tactic(auto, unfolding(crate::specs::CardExports::crossed_at))]
 pub fn run_count_to_c(r: RunCount) -> CardCount
     ensures { result ≡ card_count_to_c (run_count_means r) }
 {

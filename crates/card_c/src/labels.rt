@@ -37,6 +37,7 @@ pub struct CardJudged {
     pub style: u16,
 }
 
+#[tactic(auto, unfolding(crate::specs::CardExports::crossed_at))]
 fn label_to_c(r: LabelRead) -> CardLabelRead
     ensures { result ≡ label_to_c (label_means r) }
 {
@@ -65,6 +66,7 @@ fn label_to_c(r: LabelRead) -> CardLabelRead
     }
 }
 
+#[tactic(auto, unfolding(crate::specs::CardExports::crossed_at))]
 fn judged_to_c(r: Judged) -> CardJudged
     ensures { result ≡ judged_to_c (judged_means r) }
 {

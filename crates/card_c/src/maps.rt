@@ -34,6 +34,7 @@ pub struct CardCarried {
     pub map: SlotMap,
 }
 
+#[tactic(auto, unfolding(crate::specs::CardExports::crossed_at, crate::specs::CardExports::map_bits))]
 pub fn made_to_c(r: MapMade) -> CardMapMade
     ensures { MadeToC (made_means r) result }
 {
@@ -67,6 +68,7 @@ fn carried_to_c(r: Carried) -> CardCarried
     }
 }
 
+#[tactic(auto, unfolding(answers_c::specs::Crossing::crossed))]
 fn free_to_c(r: SlotFound) -> GptNext
     ensures { result ≡ free_to_c (slot_means r) }
 {

@@ -46,6 +46,7 @@ pub struct CardRepairStep {
     pub state: Repair,
 }
 
+#[tactic(auto, unfolding(answers_c::specs::Crossing::crossed))]
 pub fn copy_to_c(r: GoodCopy) -> CardCopy
     ensures { result ≡ copy_to_c (copy_means r) }
 {
@@ -65,6 +66,7 @@ pub fn copy_to_c(r: GoodCopy) -> CardCopy
     }
 }
 
+#[tactic(auto, unfolding(crate::specs::CardExports::aside_at))]
 pub fn update_to_c(r: UpdateStep) -> CardUpdateStep
     ensures { result ≡ aside_at update_made (update_means r) }
 {
@@ -95,6 +97,7 @@ fn zero_repair() -> Repair
     }
 }
 
+#[tactic(auto, unfolding(crate::specs::CardExports::crossed_at))]
 pub fn repair_to_c(r: RepairStep) -> CardRepairStep
     ensures { result ≡ repair_to_c (repair_means r) }
 {

@@ -72,21 +72,17 @@ pub fn filled(img: &[u8], from: BytePlace, n: usize, byte: u8) -> bool {
     if img.len() - n < at {
         return false;
     }
-    let mut i = 0;
-    while i < n {
+    for i in 0..n {
         if img[at + i] != byte {
             return false;
         }
-        i += 1;
     }
     true
 }
 
 // Makes all bytes the same.
 pub fn fill(space: &mut [u8], byte: u8) {
-    let mut i = 0;
-    while i < space.len() {
-        space[i] = byte;
-        i += 1;
+    for place in space.iter_mut() {
+        *place = byte;
     }
 }

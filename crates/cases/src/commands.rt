@@ -1,8 +1,10 @@
 // The commands that print a line: each is one card call, or a look at the image. A line has the command as the script has it, and the answer.
 // The image is summed before and after a call, so that a refused one shows that it changed nothing.
 use crate::{bytes, say, script};
+use console::Output;
 use listing::{CardCount, CardNext};
 use partition::{Flags, Partition};
+use std::io::Write;
 use units::{CardVerdict, Guid, Tail};
 
 // The GUIDs here differ in their last byte alone: 0 is the disk's, and a partition has its slot's number there.
@@ -73,13 +75,13 @@ fn change(img: &mut [u8], b: u64, line: &[u8]) -> CardVerdict {
     }
 }
 
-pub fn judge(img: &mut [u8], b: u64, line: &[u8]) {
+pub fn judge(img: &mut [u8], b: u64, line: &[u8], out: &mut Output<impl Write>) {
     let before = crc32::crc32(img);
     let v = change(img, b, line);
-    say::verdict(v, crc32::crc32(img) == before);
+    say::verdict(v, crc32::crc32(img) == before, out);
 }
 
-fn write_bytes(img: &mut [u8], b: u64, line: &[u8], payload: &[u8]) {
+fn write_bytes(img: &mut [u8], b: u64, line: &[u8], payload: &[u8], out: &mut Output<impl Write>) {
     let before = crc32::crc32(img);
     let v = card::write_payload(
         img,
@@ -88,105 +90,106 @@ fn write_bytes(img: &mut [u8], b: u64, line: &[u8], payload: &[u8]) {
         script::place(line, 1),
         payload,
     );
-    say::stored(v, crc32::crc32(img) == before);
+    say::stored(v, crc32::crc32(img) == before, out);
 }
 
 // A payload write: how many bytes, the place, the slot, and the byte that they all are. At most 4,097 are written.
-pub fn write(img: &mut [u8], b: u64, line: &[u8]) {
+pub fn write(img: &mut [u8], b: u64, line: &[u8], out: &mut Output<impl Write>) {
     let payload = [script::byte(line, 3); 4097];
     let n = script::count(line, 0);
     if n <= 4097 {
-        write_bytes(img, b, line, &payload[..n]);
+        write_bytes(img, b, line, &payload[..n], out);
     }
 }
 
-pub fn used(img: &[u8], b: u64) {
+pub fn used(img: &[u8], b: u64, out: &mut Output<impl Write>) {
     match card::count_used(img, b) {
-        CardCount::Used(n) => say::number(b": ", n as u64),
-        CardCount::Refused(w) => say::refused(w),
+        CardCount::Used(n) => say::number(b": ", n as u64, out),
+        CardCount::Refused(w) => say::refused(w, out),
     }
-    say::text(b"\n");
+    out.text(b"\n");
 }
 
 // The next used slot after one.
-pub fn after(img: &[u8], b: u64, line: &[u8]) {
+pub fn after(img: &[u8], b: u64, line: &[u8], out: &mut Output<impl Write>) {
     match card::next_used(img, b, script::slot(line, 0)) {
-        CardNext::At(next) => say::number(b": slot ", next.0 as u64),
-        CardNext::NoMore => say::text(b": none"),
-        CardNext::Refused(w) => say::refused(w),
+        CardNext::At(next) => say::number(b": slot ", next.0 as u64, out),
+        CardNext::NoMore => out.text(b": none"),
+        CardNext::Refused(w) => say::refused(w, out),
     }
-    say::text(b"\n");
+    out.text(b"\n");
 }
 
 // A text and the blocks of a record.
-fn blocks(before: &[u8], p: Partition) {
-    say::number(before, p.first_lba.0);
-    say::number(b" to ", p.last_lba.0);
+fn blocks(before: &[u8], p: Partition, out: &mut Output<impl Write>) {
+    say::number(before, p.first_lba.0, out);
+    say::number(b" to ", p.last_lba.0, out);
 }
 
 // A used slot by its number among the used ones, counted from 0.
-pub fn get(img: &[u8], b: u64, line: &[u8]) {
+pub fn get(img: &[u8], b: u64, line: &[u8], out: &mut Output<impl Write>) {
     let k = (script::number(line, 0) % 0x1_0000_0000) as u32;
     let r = card::nth_used(img, b, k);
     let p = r.partition;
     if r.found {
-        say::number(b": slot ", r.slot.0 as u64);
-        blocks(b", blocks ", p);
+        say::number(b": slot ", r.slot.0 as u64, out);
+        blocks(b", blocks ", p, out);
     } else {
-        say::text(b": none");
+        out.text(b": none");
     }
-    say::text(b"\n");
+    out.text(b"\n");
 }
 
 // The units of a name, in hexadecimal digits.
-fn units_of(name: [u16; 36]) {
-    let mut i = 0;
-    while i < 36 {
-        say::unit(name[i]);
-        i += 1;
+fn units_of(name: [u16; 36], out: &mut Output<impl Write>) {
+    for unit in name {
+        say::unit(unit, out);
     }
 }
 
 // Flags by their names.
-fn named_flags(f: Flags) {
-    say::where_so(f.required, b", required");
-    say::where_so(f.no_block_io, b", no block I/O");
-    say::where_so(f.legacy_bootable, b", legacy bootable");
-    say::number(b", reserved ", f.reserved);
-    say::number(b", owner ", f.owner as u64);
+fn named_flags(f: Flags, out: &mut Output<impl Write>) {
+    say::where_so(f.required, b", required", out);
+    say::where_so(f.no_block_io, b", no block I/O", out);
+    say::where_so(f.legacy_bootable, b", legacy bootable", out);
+    say::number(b", reserved ", f.reserved, out);
+    say::number(b", owner ", f.owner as u64, out);
 }
 
-fn whole(p: Partition) {
-    blocks(b": blocks ", p);
+fn whole(p: Partition, out: &mut Output<impl Write>) {
+    blocks(b": blocks ", p, out);
     let flags = p.flags;
-    named_flags(flags);
-    say::text(b", name");
+    named_flags(flags, out);
+    out.text(b", name");
     let name = p.name;
-    units_of(name);
+    units_of(name, out);
 }
 
-fn absent(v: CardVerdict) {
+fn absent(v: CardVerdict, out: &mut Output<impl Write>) {
     match v {
-        CardVerdict::Accepted => say::text(b": empty"),
-        CardVerdict::Refused(w) => say::refused(w),
+        CardVerdict::Accepted => out.text(b": empty"),
+        CardVerdict::Refused(w) => say::refused(w, out),
     }
 }
 
 // What a slot holds.
-pub fn read(img: &[u8], b: u64, line: &[u8]) {
+pub fn read(img: &[u8], b: u64, line: &[u8], out: &mut Output<impl Write>) {
     let r = card::read_slot(img, b, script::slot(line, 0));
     let v = r.verdict;
     let p = r.partition;
     if r.present {
-        whole(p);
+        whole(p, out);
     } else {
-        absent(v);
+        absent(v, out);
     }
-    say::text(b"\n");
+    out.text(b"\n");
 }
 
 // Whether so many bytes from a byte of a block on are all the same.
-pub fn holds(img: &[u8], b: u64, line: &[u8]) {
+pub fn holds(img: &[u8], b: u64, line: &[u8], out: &mut Output<impl Write>) {
     let at = bytes::place(script::block(line, 2), b, script::count(line, 1));
-    say::yes(bytes::filled(img, at, script::count(line, 0), script::byte(line, 3)));
+    say::yes(
+        bytes::filled(img, at, script::count(line, 0), script::byte(line, 3)),
+        out,
+    );
 }

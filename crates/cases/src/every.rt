@@ -1,7 +1,9 @@
 // The numbers of all calls that start with the card check. They are given slot 0 and a nil type, so that a call that does not check first answers 18.
 use crate::say;
+use console::Output;
 use listing::{CardCount, CardNext};
 use partition::Partition;
+use std::io::Write;
 use units::{BytePlace, CardStored, CardVerdict, Reason, Slot};
 
 // The number alone: the place is left out.
@@ -63,23 +65,23 @@ fn nth(img: &[u8], b: u64) -> u64 {
     number_of(v)
 }
 
-fn changes(img: &mut [u8], b: u64) {
-    say::number(b": check ", check(img, b));
-    say::number(b", put ", put(img, b));
-    say::number(b", clear ", clear(img, b));
-    say::number(b", payload ", payload(img, b));
+fn changes(img: &mut [u8], b: u64, out: &mut Output<impl Write>) {
+    say::number(b": check ", check(img, b), out);
+    say::number(b", put ", put(img, b), out);
+    say::number(b", clear ", clear(img, b), out);
+    say::number(b", payload ", payload(img, b), out);
 }
 
-fn looks(img: &[u8], b: u64) {
-    say::number(b", count ", count(img, b));
-    say::number(b", next ", next(img, b));
-    say::number(b", read ", read(img, b));
-    say::number(b", nth ", nth(img, b));
+fn looks(img: &[u8], b: u64, out: &mut Output<impl Write>) {
+    say::number(b", count ", count(img, b), out);
+    say::number(b", next ", next(img, b), out);
+    say::number(b", read ", read(img, b), out);
+    say::number(b", nth ", nth(img, b), out);
 }
 
-pub fn call(img: &mut [u8], b: u64) {
+pub fn call(img: &mut [u8], b: u64, out: &mut Output<impl Write>) {
     let before = crc32::crc32(img);
-    changes(img, b);
-    looks(img, b);
-    say::unchanged(crc32::crc32(img) == before);
+    changes(img, b, out);
+    looks(img, b, out);
+    say::unchanged(crc32::crc32(img) == before, out);
 }

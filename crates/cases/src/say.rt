@@ -1,93 +1,90 @@
 // The words of an answer.
-use libc::STDOUT_FILENO;
+use console::Output;
+use std::io::Write;
 use units::{CardStored, CardVerdict, Reason, Refusal};
 
-pub fn text(s: &[u8]) {
-    io::write_all(STDOUT_FILENO, s);
-}
-
 // A text and a number after it.
-pub fn number(before: &[u8], n: u64) {
-    text(before);
-    io::print_decimal(STDOUT_FILENO, n);
+pub fn number(before: &[u8], n: u64, out: &mut Output<impl Write>) {
+    out.text(before);
+    out.decimal(n);
 }
 
 // The start of a line: the block size, and the command as the script has it.
-pub fn start(b: u64, line: &[u8]) {
-    number(b"", b);
-    text(b": ");
-    text(line);
+pub fn start(b: u64, line: &[u8], out: &mut Output<impl Write>) {
+    number(b"", b, out);
+    out.text(b": ");
+    out.text(line);
 }
 
 // A text where something is so.
-pub fn where_so(so: bool, s: &[u8]) {
+pub fn where_so(so: bool, s: &[u8], out: &mut Output<impl Write>) {
     if so {
-        text(s);
+        out.text(s);
     }
 }
 
 // A space and a unit of a name, in hexadecimal digits.
-pub fn unit(u: u16) {
-    text(b" ");
-    io::print_hex(STDOUT_FILENO, u as u64, 4);
+pub fn unit(u: u16, out: &mut Output<impl Write>) {
+    out.text(b" ");
+    out.hex(u as u64, 4);
 }
 
 // The end of a line: a check sum.
-pub fn sum(sum: u32) {
-    text(b": ");
-    io::print_hex(STDOUT_FILENO, sum as u64, 8);
-    text(b"\n");
+pub fn sum(sum: u32, out: &mut Output<impl Write>) {
+    out.text(b": ");
+    out.hex(sum as u64, 8);
+    out.text(b"\n");
 }
 
 // The end of a line: yes or no.
-pub fn yes(is: bool) {
+pub fn yes(is: bool, out: &mut Output<impl Write>) {
     if is {
-        text(b": yes\n");
+        out.text(b": yes\n");
     } else {
-        text(b": no\n");
+        out.text(b": no\n");
     }
 }
 
 // The end of a line: whether the image is as it was before.
-pub fn unchanged(is: bool) {
+pub fn unchanged(is: bool, out: &mut Output<impl Write>) {
     if is {
-        text(b", unchanged\n");
+        out.text(b", unchanged\n");
     } else {
-        text(b", changed\n");
+        out.text(b", changed\n");
     }
 }
 
 // A refusal's number, and the slot that it carries. The place is left out.
-pub fn refused(r: Reason) {
+pub fn refused(r: Reason, out: &mut Output<impl Write>) {
     let w = r.what;
-    number(b": refused ", w.number() as u64);
+    number(b": refused ", w.number() as u64, out);
     match w {
-        Refusal::Overlap(slot) | Refusal::TwinGuid(slot) => number(b", slot ", slot.0 as u64),
+        Refusal::Overlap(slot) | Refusal::TwinGuid(slot) => number(b", slot ", slot.0 as u64, out),
         _ => {}
     }
 }
 
 // The end of a line: accepted, or refused and whether the image is as it was.
-pub fn verdict(v: CardVerdict, same: bool) {
+pub fn verdict(v: CardVerdict, same: bool, out: &mut Output<impl Write>) {
     match v {
-        CardVerdict::Accepted => text(b": accepted\n"),
+        CardVerdict::Accepted => out.text(b": accepted\n"),
         CardVerdict::Refused(w) => {
-            refused(w);
-            unchanged(same);
+            refused(w, out);
+            unchanged(same, out);
         }
     }
 }
 
 // The same of a payload write, with the bytes that it says it stored.
-pub fn stored(v: CardStored, same: bool) {
+pub fn stored(v: CardStored, same: bool, out: &mut Output<impl Write>) {
     match v {
         CardStored::Bytes(n) => {
-            number(b": accepted, ", n as u64);
-            text(b" bytes\n");
+            number(b": accepted, ", n as u64, out);
+            out.text(b" bytes\n");
         }
         CardStored::Refused(w) => {
-            refused(w);
-            unchanged(same);
+            refused(w, out);
+            unchanged(same, out);
         }
     }
 }

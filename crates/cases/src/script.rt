@@ -8,14 +8,12 @@ pub fn line_end(s: &[u8], at: usize) -> usize
     requires { at ≤ length s.now }
     ensures { (at ≤ result) × (result ≤ length s.now) }
 {
-    let mut i = at;
-    while i < s.len() {
+    for i in at..s.len() {
         if s[i] == b'\n' {
             return i;
         }
-        i += 1;
     }
-    i
+    s.len()
 }
 
 // The line's first letter; 0 for an empty line.
@@ -73,10 +71,8 @@ pub fn number(line: &[u8], k: usize) -> u64 {
         inside: false,
         value: 0,
     };
-    let mut i = 0;
-    while i < line.len() {
-        r = r.with(line[i], k);
-        i += 1;
+    for c in line {
+        r = r.with(*c, k);
     }
     r.value
 }
@@ -108,10 +104,8 @@ fn unit(line: &[u8], k: usize) -> u16 {
 // The name whose units are the numbers after the first four.
 pub fn name(line: &[u8]) -> [u16; 36] {
     let mut name = [0u16; 36];
-    let mut i = 0;
-    while i < 36 {
+    for i in 0..36 {
         name[i] = unit(line, i + 4);
-        i += 1;
     }
     name
 }

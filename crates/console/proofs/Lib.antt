@@ -1,2 +1,2 @@
--- `Laws` has what a caller of `read_input` knows.
-pub mod Laws
+-- `Streams` has what follows of what readers give and writers hold from one call after another.
+pub mod Streams

@@ -1,10 +1,11 @@
--- What the contracts of `console` cite. Assumes nothing.
-use Rattle.std.specs.Prelude.{ℕ, List}
-use Rattle.io.specs.Counts.{IsPrefixLen}
-use Rattle.console.specs.declared.Input.{Input}
-use Rattle.console.specs.declared.Input.TheVariants as input
+-- What the contracts of `console` cite.
+use Rattle.std.specs.Prelude.{◌≡◌, ℕ, List, Bool, true, false, take}
+use Rattle.std.specs.declared.option.Option.{Option}
+use Rattle.std.specs.Io.KnownBytes.{Appends, Keeps}
 
--- an answer that tells a number of bytes tells one that the buffer holds
-abbrev pub Within : Input → List ℕ → Type 0
-Within (input.Bytes n) xs = IsPrefixLen n xs
-Within input.Failed xs = Unit
+-- What asking for bs to be written does to what a writer holds, and to whether all went well so far: all of bs is written where it went and goes well,
+-- a part from the front of bs where this write fails, and nothing where an earlier one failed.
+abbrev pub Writes : Option (List ℕ) → Bool → Option (List ℕ) → Bool → List ℕ → Type 0
+Writes old true new true bs = Appends old new bs
+Writes old true new false bs = (n : ℕ) × Appends old new (take n bs)
+Writes old false new ok bs = Keeps old new × (ok ≡ false)

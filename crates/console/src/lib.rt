@@ -1,140 +1,183 @@
 // What the programs share: reading standard input, all of it or piece by piece, writing to standard output, and saying on standard error what failed.
 //
 // A read or a write that a signal interrupts is asked again. Any other failure is told to the caller, who says it and gives no verdict.
+// A reader and a writer are whatever `main` hands over, so that the contracts can say which bytes are read and written.
 #![tactic(auto)]
 
-ghost use Rattle.console.specs.Answers.{Within};
+ghost use Rattle.std.specs.Prelude.{◌≡◌, ◌≢◌, ◌↔◌, ◌<◌, ℕ, length, take, max, min, true, ◌⊎◌, IsTrue, IsFalse, IfErr, MatchResult};
+ghost use Rattle.std.specs.Io.KnownBytes.{Appends, Consumes, IsAtEnd, ReadConsumes};
+ghost use Rattle.std.specs.Io.{ReadsAtMost};
+ghost use Rattle.std.specs.IoError.{error_kind};
+ghost use Rattle.io.specs.Digits.{IsDigitCount, last_digits};
+ghost use Rattle.console.specs.Answers.{Writes};
 
-use libc::{STDERR_FILENO, STDIN_FILENO, STDOUT_FILENO};
+use std::env::{Env, FillError};
+use std::io::{Error, ErrorKind, Read, Write};
 
-// What reading came to: how many bytes stand at the start of the buffer, or that a read failed.
-#[derive(Clone, Copy)]
-pub enum Input {
-    Bytes(usize),
-    Failed,
-}
-
-// Whether a call of read or write only failed because a signal interrupted it.
-fn interrupted(got: isize) -> bool {
-    got < 0 && os::errno() == libc::EINTR
-}
-
-// One read of standard input, asked again for as long as signals interrupt it. A proved loop has to end, so its turns are counted down from a number that no run uses up.
-fn read_some(buf: &mut [u8]) -> isize {
-    let mut turns = u64::MAX;
-    let mut got = libc::read(STDIN_FILENO, buf);
-    while turns > 0 && interrupted(got) {
-        got = libc::read(STDIN_FILENO, buf);
-        turns -= 1;
-    }
-    got
-}
-
-// Reads the next piece of standard input, as long as one read gives it. A piece of no bytes is the end.
-pub fn read_piece(buf: &mut [u8]) -> Input
-    ensures { Within result buf.new }
+// Whether a read or a write only failed because a signal interrupted it.
+fn is_interrupted(e: &Error) -> bool
+    ensures { IsTrue result ↔ (error_kind e.now ≡ ErrorKind.Interrupted) }
 {
-    let got = read_some(buf);
-    if got < 0 {
-        return Input::Failed;
-    }
-    Input::Bytes(io::count(got, buf))
+    e.kind() == ErrorKind::Interrupted
 }
 
-// Reads standard input until it ends or the buffer is full.
-pub fn read_input(buf: &mut [u8]) -> Input
-    ensures { Within result buf.new }
+// Reads the next piece of the input, as long as one read gives it. A piece of no bytes is the end. It is asked again for as long as signals interrupt it; a proved loop has
+// to end, so its turns are counted, up to a number that no run comes to.
+pub fn read_piece<R: Read>(input: &mut R, buf: &mut [u8]) -> Result<usize, Error>
+    ensures bound { ReadsAtMost result buf.new }
+    ensures bytes { ReadConsumes (R.remaining input.old) (R.remaining input.new) result buf.new }
+    ensures retried { IfErr result (λ e. error_kind e ≢ ErrorKind.Interrupted) }
+{
+    'turns: for _ in 0..u64::MAX {
+        match input.read(buf) {
+            Ok(n) => return Ok(n),
+            Err(e) => {
+                if !is_interrupted(&e) {
+                    return Err(e);
+                }
+            }
+        }
+    }
+    Err(Error::from(ErrorKind::TimedOut))
+}
+
+// Reads the input until it ends or the buffer is full.
+pub fn read_input<R: Read>(input: &mut R, buf: &mut [u8]) -> Result<usize, Error>
+    ensures bound { ReadsAtMost result buf.new }
+    ensures bytes { MatchResult result
+        (λ n. Consumes (R.remaining input.old) (R.remaining input.new) (take n buf.new) × (n < length buf.new → IsAtEnd (R.remaining input.new)))
+        (λ _. (n : ℕ) × Consumes (R.remaining input.old) (R.remaining input.new) (take n buf.new)) }
+    ensures retried { IfErr result (λ e. error_kind e ≢ ErrorKind.Interrupted) }
 {
     let mut done = 0;
     while done < buf.len() {
         let rest = &mut buf[done..];
-        let got = read_some(rest);
-        if got < 0 {
-            return Input::Failed;
-        }
-        let n = io::count(got, rest);
+        let n = read_piece(input, rest)?;
         if n == 0 {
-            return Input::Bytes(done);
+            return Ok(done);
         }
         done += n;
     }
-    Input::Bytes(done)
-}
-
-// One write, asked again likewise.
-fn write_some(fd: i32, s: &[u8]) -> isize {
-    let mut turns = u64::MAX;
-    let mut put = libc::write(fd, s);
-    while turns > 0 && interrupted(put) {
-        put = libc::write(fd, s);
-        turns -= 1;
-    }
-    put
+    Ok(done)
 }
 
 // Writes all bytes, and answers whether that went well. Where it did not, some of them may have been written.
-fn write_all(fd: i32, s: &[u8]) -> bool {
+fn write_all<W: Write>(writer: &mut W, s: &[u8]) -> bool
+    ensures { Writes (W.contents writer.old) true (W.contents writer.new) result s.now }
+{
     let mut done = 0;
-    while done < s.len() {
-        let rest = &s[done..];
-        let n = io::count(write_some(fd, rest), rest);
-        if n == 0 {
-            return false;
+    'writes: for _ in 0..u64::MAX {
+        if s.len() <= done {
+            return true;
         }
-        done += n;
+        match writer.write(&s[done..]) {
+            Ok(0) => return false,
+            Ok(n) => done += n,
+            Err(e) => {
+                if !is_interrupted(&e) {
+                    return false;
+                }
+            }
+        }
     }
-    true
+    false
 }
 
-// Writes to standard output, unless an earlier write failed: `ok` says whether all writes so far went well.
-pub fn text(s: &[u8], ok: &mut bool) {
-    if *ok {
-        *ok = write_all(STDOUT_FILENO, s);
+// Where a program writes, and whether all writes so far went well. After one that did not, nothing more is written.
+#[derive(Drop)]
+pub struct Output<W> {
+    writer: W,
+    ok: bool,
+}
+
+impl<W: Write> Output<W> {
+    pub fn new(writer: W) -> Output<W>
+        ensures writer { result.writer ≡ writer }
+        ensures ok { result.ok ≡ true }
+    {
+        Output { writer, ok: true }
     }
-}
 
-// The same of a number, in decimal digits.
-pub fn decimal(n: u64, ok: &mut bool) {
-    let mut digits = [0u8; 20];
-    let k = io::decimal(n, &mut digits);
-    text(&digits[..k], ok);
-}
+    // Whether all writes so far went well.
+    pub fn is_ok(&self) -> bool
+        ensures { result ≡ self.now.ok }
+    {
+        self.ok
+    }
 
-// The same of a number in hexadecimal digits, with zeros in front up to a width.
-pub fn hex(n: u64, width: usize, ok: &mut bool) {
-    let mut digits = [0u8; 16];
-    let k = io::hex(n, width, &mut digits);
-    text(&digits[..k], ok);
+    // Writes bytes, unless an earlier write failed.
+    pub fn text(&mut self, s: &[u8])
+        ensures { Writes (W.contents self.old.writer) self.old.ok (W.contents self.new.writer) self.new.ok s.now }
+    {
+        if self.ok {
+            self.ok = write_all(&mut self.writer, s);
+        }
+    }
+
+    // The same of a number, in decimal digits.
+    pub fn decimal(&mut self, n: u64)
+        ensures { (k : ℕ) × IsDigitCount 10 1 n k
+            × Writes (W.contents self.old.writer) self.old.ok (W.contents self.new.writer) self.new.ok (last_digits 10 k n) }
+    {
+        let mut digits = [0u8; 20];
+        let k = io::decimal(n, &mut digits);
+        self.text(&digits[..k]);
+    }
+
+    // The same of a number in hexadecimal digits, with zeros in front up to a width.
+    pub fn hex(&mut self, n: u64, width: usize)
+        ensures { (k : ℕ) × IsDigitCount 16 (min (max width 1) 16) n k
+            × Writes (W.contents self.old.writer) self.old.ok (W.contents self.new.writer) self.new.ok (last_digits 16 k n) }
+    {
+        let mut digits = [0u8; 16];
+        let k = io::hex(n, width, &mut digits);
+        self.text(&digits[..k]);
+    }
 }
 
 // Writes a line to standard error. Where that fails too, nothing is left to say it on.
-pub fn complain(line: &[u8]) {
-    write_all(STDERR_FILENO, line);
+pub fn complain<W: Write>(errors: &mut W, line: &[u8])
+    ensures { (n : ℕ) × Appends (W.contents errors.old) (W.contents errors.new) (take n line.now) }
+{
+    write_all(errors, line);
+}
+
+// Whether there is an argument with this number. Number 0 is the program's own name.
+fn has_argument<E: Env>(env: &E, i: usize) -> bool {
+    match env.arg(i, &mut []) {
+        Err(FillError::NotPresent) => false,
+        _ => true,
+    }
 }
 
 // Whether the first argument is `--help`.
-fn is_help() -> bool {
+fn is_help<E: Env>(env: &E) -> bool {
     let mut word = [0u8; 6];
-    let n = os::arg(1, &mut word);
-    n == 6
-        && word[0] == b'-'
-        && word[1] == b'-'
-        && word[2] == b'h'
-        && word[3] == b'e'
-        && word[4] == b'l'
-        && word[5] == b'p'
+    match env.arg(1, &mut word) {
+        Ok(n) => n == 6 && word == *b"--help",
+        Err(_) => false,
+    }
 }
 
 // Whether a program that takes no arguments was given none. If it was given any, its usage line is written: to standard output for `--help` alone, else to standard error.
-pub fn no_arguments(usage: &[u8], ok: &mut bool) -> bool {
-    let count = os::arg_count();
-    if count < 2 {
+pub fn no_arguments<E: Env, W: Write, X: Write>(
+    env: &E,
+    usage: &[u8],
+    out: &mut Output<W>,
+    errors: &mut X,
+) -> bool
+    ensures none { IsTrue result → (out.new ≡ out.old) × (errors.new ≡ errors.old) }
+    ensures told { IsFalse result
+        → Writes (W.contents out.old.writer) out.old.ok (W.contents out.new.writer) out.new.ok usage.now × (errors.new ≡ errors.old)
+        ⊎ (out.new ≡ out.old) × ((n : ℕ) × Appends (X.contents errors.old) (X.contents errors.new) (take n usage.now)) }
+{
+    if !has_argument(env, 1) {
         return true;
     }
-    if count == 2 && is_help() {
-        text(usage, ok);
+    if is_help(env) && !has_argument(env, 2) {
+        out.text(usage);
     } else {
-        complain(usage);
+        complain(errors, usage);
     }
     false
 }

@@ -38,6 +38,7 @@ pub extern "C" fn rt_header_sums(s: &[u8], n: u32) -> u32
 }
 
 // The place after `at` at which a header still fits into n bytes, or else the first.
+#[tactic(auto, unfolding(crate::specs::Exports::next_place))]
 fn following(at: usize, n: usize) -> usize
     requires le_n { 92 ≤ n }
     requires at_bound { at + 92 ≤ n }

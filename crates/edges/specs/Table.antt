@@ -9,7 +9,6 @@ use Rattle.units.specs.Answer.{Answer, accepted, refused, number_of, refuse, and
 use Rattle.units.specs.Bytes.{le, num, bytes, same}
 use Rattle.units.specs.Guids.{guid_at, nil_guid}
 use Rattle.units.specs.Places.{good_size}
-use Rattle.header.specs.declared.Header.{Header}
 use Rattle.builder.specs.declared.HeaderBuilder.{HeaderBuilder}
 use Rattle.header.specs.Reading.{backup_block}
 use Rattle.builder.specs.Building.{new_builder, with_primary, with_backup_lba, with_last_usable, with_num_parts, with_part_size, built_with, built}

@@ -5,51 +5,50 @@
 
 ghost use Rattle.std.specs.Prelude.{ℕ, ◌+◌, ◌^◌, ◌≤◌, ◌<◌, length, get_or};
 
-use console::Input;
+use console::Output;
 use ground::RunCount;
+use std::io::{Read, Write};
 
-// A word, a number and the end of the line. Of every function here `ok` says whether all that was printed so far was written.
-fn say(word: &[u8], n: u64, ok: &mut bool) {
-    console::text(word, ok);
-    console::decimal(n, ok);
-    console::text(b"\n", ok);
+// A word, a number and the end of the line.
+fn say(word: &[u8], n: u64, out: &mut Output<impl Write>) {
+    out.text(word);
+    out.decimal(n);
+    out.text(b"\n");
 }
 
 // A run's line: its first and last block, and how many blocks it has.
-fn print_run(start: u64, blocks: u64, ok: &mut bool)
+fn print_run(start: u64, blocks: u64, out: &mut Output<impl Write>)
     requires { (0 < blocks) × (start + blocks < 2 ^ 64) }
 {
-    console::decimal(start, ok);
-    console::text(b" ", ok);
-    console::decimal(start + blocks - 1, ok);
-    say(b" ", blocks, ok);
+    out.decimal(start);
+    out.text(b" ");
+    out.decimal(start + blocks - 1);
+    say(b" ", blocks, out);
 }
 
 // The lines of the n runs in both rows.
-fn print_runs<'a>(starts: &'a [u64], lengths: &'a [u64], n: usize, ok: &mut bool)
+fn print_runs<'a>(starts: &'a [u64], lengths: &'a [u64], n: usize, out: &mut Output<impl Write>)
     requires n_in_bounds { (n ≤ length starts.now) × (n ≤ length lengths.now) }
     requires by_index { (k : ℕ) → k < n → (0 < get_or lengths.now k 0) × (get_or starts.now k 0 + get_or lengths.now k 0 < 2 ^ 64) }
 {
-    let mut i = 0;
-    while i < n {
-        print_run(starts[i], lengths[i], ok);
-        i += 1;
+    for i in 0..n {
+        print_run(starts[i], lengths[i], out);
     }
 }
 
 // The card's runs, in rows of 129 places, which always do.
-fn list(img: &[u8], ok: &mut bool) {
+fn list(img: &[u8], out: &mut Output<impl Write>) {
     let mut starts: [u64; 129] = [0; 129];
     let mut lengths: [u64; 129] = [0; 129];
     match ground::free_runs(img, 512, &mut starts, &mut lengths) {
         RunCount::Refused(w) => {
             let what = w.what;
-            say(b"refused ", what.number() as u64, ok)
+            say(b"refused ", what.number() as u64, out)
         }
         RunCount::Runs(n) => {
-            console::text(b"first last blocks\n", ok);
-            print_runs(&starts, &lengths, n as usize, ok);
-            say(b"runs ", n as u64, ok);
+            out.text(b"first last blocks\n");
+            print_runs(&starts, &lengths, n as usize, out);
+            say(b"runs ", n as u64, out);
         }
     }
 }
@@ -60,30 +59,33 @@ fn space() -> [u8; 65537] {
 }
 
 // Reads the image to its end before anything is printed.
-fn run(ok: &mut bool) {
+fn run(input: &mut impl Read, out: &mut Output<impl Write>, errors: &mut impl Write) {
     let mut buf = space();
-    match console::read_input(&mut buf) {
-        Input::Failed => console::complain(b"free_ground: cannot read the input\n"),
-        Input::Bytes(n) => {
+    match console::read_input(input, &mut buf) {
+        Err(_) => console::complain(errors, b"free_ground: cannot read the input\n"),
+        Ok(n) => {
             if 65536 < n {
-                console::text(b"too long\n", ok);
+                out.text(b"too long\n");
             } else {
-                list(&buf[..n], ok);
+                list(&buf[..n], out);
             }
         }
     }
 }
 
-// A main function in Rattle returns nothing, so the exit status is always 0 and the usage line says so.
-fn main() {
-    let mut ok = true;
+// The exit status is always 0, as the usage line says.
+fn main(rt: HostRuntime) {
+    let mut out = Output::new(rt.stdout());
+    let mut errors = rt.stderr();
     if console::no_arguments(
+        &rt,
         b"usage: free_ground < IMAGE (blocks of 512 bytes, 65,536 bytes at most; the exit status is always 0, so read what is printed)\n",
-        &mut ok,
+        &mut out,
+        &mut errors,
     ) {
-        run(&mut ok);
+        run(&mut rt.stdin(), &mut out, &mut errors);
     }
-    if !ok {
-        console::complain(b"free_ground: cannot write the output\n");
+    if !out.is_ok() {
+        console::complain(&mut errors, b"free_ground: cannot write the output\n");
     }
 }

@@ -24,6 +24,7 @@ pub struct GptSettings {
 }
 
 // A new builder with every setting made.
+#[tactic(auto, unfolding(crate::specs::Exports::builder_of))]
 fn builder_of(s: GptSettings) -> HeaderBuilder
     ensures { result ≡ builder_of s }
 {
@@ -41,6 +42,7 @@ fn builder_of(s: GptSettings) -> HeaderBuilder
         .with_primary(s.primary)
 }
 
+#[tactic(auto, unfolding(answers_c::specs::Crossing::crossed))]
 fn built_to_c(r: HeaderBuilt) -> GptHeaderRead
     ensures { result ≡ header_to_c (built_means r) }
 {

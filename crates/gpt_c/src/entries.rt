@@ -52,6 +52,7 @@ pub struct GptEntryRead {
     pub partition: Partition,
 }
 
+#[tactic(auto, unfolding(answers_c::specs::Crossing::crossed))]
 fn bits_to_c(r: FlagBits) -> GptFlagBits
     ensures { result ≡ bits_to_c (bits_means r) }
 {
@@ -64,6 +65,7 @@ fn bits_to_c(r: FlagBits) -> GptFlagBits
     }
 }
 
+#[tactic(auto, unfolding(answers_c::specs::Crossing::crossed))]
 fn length_to_c(r: Length) -> GptLength
     ensures { result ≡ length_to_c (length_means r) }
 {
@@ -79,6 +81,7 @@ fn length_to_c(r: Length) -> GptLength
     }
 }
 
+#[tactic(auto, unfolding(answers_c::specs::Crossing::crossed))]
 fn place_to_c(r: Placed) -> GptPlace
     ensures { result ≡ place_to_c (placed_means r) }
 {

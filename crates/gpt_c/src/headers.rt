@@ -64,6 +64,7 @@ pub fn zero_header() -> Header
     }
 }
 
+#[tactic(auto, unfolding(answers_c::specs::Crossing::crossed))]
 pub fn header_to_c(r: HeaderRead) -> GptHeaderRead
     ensures { result ≡ header_to_c (read_means r) }
 {
@@ -76,6 +77,7 @@ pub fn header_to_c(r: HeaderRead) -> GptHeaderRead
     }
 }
 
+#[tactic(auto, unfolding(answers_c::specs::Crossing::crossed))]
 fn written_to_c(r: HeaderWritten) -> GptHeaderWritten
     ensures { result ≡ written_to_c (written_means r) }
 {
@@ -93,6 +95,7 @@ fn written_to_c(r: HeaderWritten) -> GptHeaderWritten
     }
 }
 
+#[tactic(auto, unfolding(answers_c::specs::Crossing::crossed))]
 fn sum_to_c(r: SumFound) -> GptSum
     ensures { result ≡ sum_to_c (sum_means r) }
 {
@@ -105,6 +108,7 @@ fn sum_to_c(r: SumFound) -> GptSum
     }
 }
 
+#[tactic(auto, unfolding(answers_c::specs::Crossing::crossed))]
 fn block_to_c(r: BlockFound) -> GptBlock
     ensures { result ≡ block_to_c (block_means r) }
 {

@@ -93,6 +93,7 @@ fn zero_mbr() -> ProtectiveMbr
     }
 }
 
+#[tactic(auto, unfolding(answers_c::specs::Crossing::crossed, crate::specs::Exports::answered))]
 fn mbr_to_c(r: MbrRead) -> GptMbrRead
     ensures { result ≡ mbr_to_c (answered (mbr_means r)) }
 {
@@ -107,6 +108,7 @@ fn mbr_to_c(r: MbrRead) -> GptMbrRead
     }
 }
 
+#[tactic(auto, unfolding(answers_c::specs::Crossing::crossed))]
 fn record_to_c(r: RecordRead) -> GptRecordRead
     ensures { result ≡ record_to_c (record_means r) }
 {
@@ -122,6 +124,7 @@ fn record_to_c(r: RecordRead) -> GptRecordRead
     }
 }
 
+#[tactic(auto, unfolding(answers_c::specs::Crossing::crossed, crate::specs::Exports::answered))]
 fn set_to_c(r: RecordSet) -> GptRecordSet
     ensures { result ≡ set_to_c (answered (set_means r)) }
 {
@@ -142,6 +145,7 @@ fn set_to_c(r: RecordSet) -> GptRecordSet
     }
 }
 
+#[tactic(auto, unfolding(answers_c::specs::Crossing::aside))]
 fn bootcode_to_c(r: BootcodeRead) -> GptBootcodeRead
     ensures { result ≡ aside bootcode_made (bootcode_means r) }
 {
@@ -153,6 +157,7 @@ fn bootcode_to_c(r: BootcodeRead) -> GptBootcodeRead
     }
 }
 
+#[tactic(auto, unfolding(answers_c::specs::Crossing::aside))]
 fn signature_to_c(r: SignatureRead) -> GptSignatureRead
     ensures { result ≡ aside signature_made (signature_means r) }
 {

@@ -11,6 +11,7 @@ pub struct GptStored {
     pub bytes: u64,
 }
 
+#[tactic(auto, unfolding(answers_c::specs::Crossing::crossed))]
 pub fn stored_to_c(r: units::Stored) -> GptStored
     ensures { result ≡ stored_to_c (stored_means r) }
 {

@@ -10,7 +10,7 @@ use Rattle.units.specs.Answer.{pick}
 use Rattle.tables.specs.Checks.{all}
 use Rattle.tables.specs.Places.{first_usable_of, last_usable_of}
 use Rattle.tables.specs.Entries.{entry, used, first_of, last_of}
-use Rattle.tables.proofs.Orders.{split, by-test, all_of, and_left, and_right}
+use Rattle.tables.proofs.Orders.{by-test, all_of, and_left, and_right}
 use Rattle.tables.proofs.EntryLaws.{Entries, ok-used}
 use Rattle.ground.specs.Ground.{covers, free, reach, runs_from, runs}
 use Rattle.ground.specs.Facts.{total, used_blocks}

@@ -11,7 +11,7 @@ use lib.Seq.{sets}
 use Rattle.units.specs.declared.why.Why.{Why}
 use Rattle.units.specs.declared.Reason.{Reason}
 use Rattle.units.specs.declared.Refusal.TheVariants.{NoRoom}
-use Rattle.units.specs.Answer.{Answer, accepted, refused, plain, when, if_zero, judged}
+use Rattle.units.specs.Answer.{Answer, accepted, refused, plain, if_zero, judged}
 use Rattle.units.specs.Refusals.{why_at, reason_of}
 use Rattle.units.proofs.Chains.{Named, named-is, named-when, found, past, number-of, none-when}
 use Rattle.units.proofs.Lists.{length-lent}

@@ -1,18 +1,14 @@
 -- What is told reads back: the text of a GUID is read as that GUID. Assumes nothing.
-use mathlib.Core.Path.{◌≡◌, refl, sym, ap, ◌∙◌}
+use mathlib.Core.Path.{◌≡◌, refl, ◌∙◌}
 use mathlib.Core.Bool.{Bool, true, false}
 use mathlib.Core.List.{List, [], ◌∷◌, ◌++◌}
-use Prim.Native.Nat.{ℕ, zero, suc, ◌+◌, ◌*◌, ◌-◌, ◌/◌, ◌%◌, ◌^◌, ◌≤◌, ◌<◌}
+use Prim.Native.Nat.{ℕ, zero, suc, ◌+◌, ◌*◌, ◌/◌, ◌%◌, ◌^◌, ◌<◌}
 use native.Mathlib.Nat.{pow-suc, mul_assoc}
 use native.Mathlib.Omega.{arith}
-use lib.Dec.{eqb, ltb, leb}
-use lib.ListN.{length, get_or}
-use borrow.Author.Tests.{ltb-true, ltb-false, lt-ltb, le-ltb, le-leb, lt-leb, eq-eqb}
-use Rattle.units.specs.declared.Tail.{Tail}
+use lib.Dec.{ltb}
+use borrow.Author.Tests.{ltb-true, ltb-false, lt-ltb}
 use Rattle.units.specs.declared.Guid.{Guid}
-use Rattle.units.specs.Answer.{pick}
 use Rattle.units.specs.Held.{GuidHeld}
-use Rattle.units.specs.Bytes.{part}
 use Rattle.text.specs.Digits.{digit_of, digits}
 use Rattle.text.proofs.Laws.{in_between, above}
 use Rattle.guid_text.specs.Hex.{hex_digit_value, hex_after}

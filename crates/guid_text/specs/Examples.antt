@@ -4,7 +4,6 @@ use Rattle.units.specs.declared.Guid.{Guid}
 use Rattle.text.specs.Digits.{digit_of, digits}
 use Rattle.text.specs.Ranges.{between}
 use Rattle.text.specs.Texts.{ascii}
-use Rattle.guid_text.specs.declared.GuidOfText.{GuidOfText}
 use Rattle.guid_text.specs.GuidTexts.{big, text_of_guid, dash_place, right_at, wrong_from, tail_in, guid_in, guid_of_text, bad_guid}
 use Rattle.guid_text.specs.Hex.{hex_digit_value, hex_after}
 

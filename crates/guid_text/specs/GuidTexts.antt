@@ -1,6 +1,6 @@
 -- A GUID in the usual form (UEFI 2.10, appendix A; RFC 9562, section 4): 32 hexadecimal digits in groups of 8, 4, 4, 4 and 12 with dashes between. The first three groups are the
 -- three numbers, the last two the eight bytes in their order. Lower case is written, either case is read. Assumes nothing.
-use Rattle.std.specs.Prelude.{Bool, ◌&&◌, ◌||◌, List, [], ◌∷◌, ◌++◌, ℕ, zero, suc, ◌+◌, ◌*◌, eqb, ltb, length, get_or}
+use Rattle.std.specs.Prelude.{Bool, ◌||◌, List, [], ◌∷◌, ◌++◌, ℕ, zero, suc, ◌+◌, ◌*◌, eqb, ltb, length, get_or}
 use Rattle.units.specs.declared.Tail.{Tail}
 use Rattle.units.specs.declared.Guid.{Guid}
 use Rattle.units.specs.Answer.{pick}

@@ -3,7 +3,7 @@
 use mathlib.Core.Path.{◌≡◌, refl, sym, ap, ◌∙◌}
 use mathlib.Core.Bool.{Bool, true, false, not}
 use mathlib.Core.List.{List, [], ◌∷◌, ◌++◌, append-nil, append_assoc}
-use Prim.Native.Nat.{ℕ, zero, suc, ◌+◌, ◌*◌, ◌-◌, ◌/◌, ◌^◌, ◌≤◌, ◌<◌}
+use Prim.Native.Nat.{ℕ, ◌+◌, ◌*◌, ◌-◌, ◌/◌, ◌^◌, ◌≤◌, ◌<◌}
 use native.Mathlib.Nat.{add_assoc, one-mul}
 use native.Mathlib.Omega.{arith}
 use lib.Dec.{eqb, ltb, leb}
@@ -15,12 +15,12 @@ use denote.Struct.Declared.{row}
 use mir.Val.{Val}
 use Rattle.units.specs.declared.Guid.{Guid}
 use Rattle.units.specs.declared.why.Why.{Why}
-use Rattle.units.specs.Answer.{Answer, accepted, refused, number_of, refuse, pick, Outcome, gives}
+use Rattle.units.specs.Answer.{Answer, accepted, refused, number_of, refuse, Outcome, gives}
 use Rattle.units.specs.Bytes.{part, num, bytes, total, laid, same}
 use Rattle.units.specs.Guids.{guid_bytes}
 use Rattle.units.specs.Places.{good_size, inside, inside_or_empty}
 use Rattle.units.specs.Held.{Small, GuidHeld}
-use Rattle.units.proofs.Lists.{part_join, part-part, part-split, drop-sets}
+use Rattle.units.proofs.Lists.{part_join, part-part, drop-sets}
 use Rattle.units.proofs.Laws.{size-range, by-pick, length-bytes, num-drop, le_bytes, small-part, Low, low-append, low-bytes, small-eight, bytes-num, same_refl}
 use Rattle.units.proofs.GuidLaws.{guid-held-of, low-guid, guid-here, guid-bytes-back}
 use Rattle.crc32.specs.Crc.{crc}

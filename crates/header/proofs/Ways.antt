@@ -1,6 +1,5 @@
 -- The ways out of the calls, one law for each: what the tests told, and what the definition then gives. No contract cites this file. Assumes nothing.
 use mathlib.Core.Path.{◌≡◌, refl, sym, ap, ◌∙◌}
-use mathlib.Core.Logic.{⊎_elim}
 use mathlib.Core.Bool.{Bool, true, false, not}
 use mathlib.Core.List.{List}
 use Prim.Native.Nat.{ℕ, ◌+◌, ◌*◌, ◌-◌, ◌/◌, ◌^◌, ◌≤◌, ◌<◌}
@@ -16,7 +15,7 @@ use Rattle.units.specs.declared.why.Why.{Why}
 use Rattle.units.specs.Answer.{Answer, accepted, refused, refuse, pick, and_then, gives}
 use Rattle.units.specs.Bytes.{part, same}
 use Rattle.units.specs.Places.{good_size, inside, inside_or_empty, place_of, block_of}
-use Rattle.units.proofs.Laws.{size-range, size-past, place-over, place-fits}
+use Rattle.units.proofs.Laws.{place-over, place-fits}
 use Rattle.crc32.specs.Crc.{fresh, crc}
 use Rattle.crc32.specs.Register.{crc-from-empty}
 use Rattle.crc32.specs.HeaderSum.{header_sum}

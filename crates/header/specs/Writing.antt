@@ -1,5 +1,5 @@
 -- Writing headers, by document 01, "Header": 11, 3 and 2 of the array, 3 and 2 of the own block; one whole block is stored. Assumes nothing.
-use Rattle.std.specs.Prelude.{Bool, not, List, ◌++◌, ℕ, ◌+◌, ◌*◌, ◌-◌, ◌^◌, leb, length, replicate}
+use Rattle.std.specs.Prelude.{Bool, not, List, ◌++◌, ℕ, ◌*◌, ◌-◌, ◌^◌, leb, length, replicate}
 use Rattle.std.proofs.lemmas.List.Edits.{sets}
 use Rattle.units.specs.Answer.{Answer, accepted, refused, refuse, pick, Outcome, gives}
 use Rattle.units.specs.Bytes.{part}

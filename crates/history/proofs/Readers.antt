@@ -7,7 +7,6 @@ use Prim.Native.Nat.{ℕ, ◌+◌, ◌*◌, ◌-◌, ◌^◌, ◌≤◌, ◌<◌
 use native.Mathlib.Omega.{arith}
 use borrow.Author.Tests.{eq-eqb, le-leb, lt-leb, le-ltb}
 use lib.ListN.{length, replicate, take, drop, take-append-drop}
-use Rattle.units.proofs.Chains.{found}
 use Rattle.units.specs.declared.Guid.{Guid}
 use Rattle.units.specs.Answer.{accepted}
 use Rattle.units.specs.Bytes.{part, all_zero}
@@ -27,7 +26,7 @@ use Rattle.partition.specs.Format.{entry_at, entry_bytes}
 use Rattle.partition.specs.Array.{Found, array_found, partition_found, partition_read}
 use Rattle.partition.proofs.Laws.{entry-drop, entry_here}
 use Rattle.tables.specs.Places.{back_array, back_header}
-use Rattle.tables.specs.Lens.{Tables, tables_at, Side, Front, Back, tables}
+use Rattle.tables.specs.Lens.{Tables, tables_at, Side, Front, Back}
 use Rattle.tables.specs.Entries.{entry, used}
 use Rattle.tables.specs.Headers.{copy_of, card_header, head_block, array_start}
 use Rattle.history.specs.History.{Reads}

@@ -21,7 +21,7 @@ use Rattle.partition.specs.Array.{Found}
 use Rattle.partition.specs.Held.{PartitionHeld}
 use Rattle.partition.proofs.FlagLaws.{flags-join}
 use Rattle.partition.proofs.Laws.{length-entry}
-use Rattle.tables.specs.Lens.{tables_at, tables}
+use Rattle.tables.specs.Lens.{tables_at}
 use Rattle.tables.specs.Entries.{zeros, entry, set_entry, used, first_of, last_of, part_guid_of}
 use Rattle.tables.specs.Check.{guid_of, slot_check}
 use Rattle.card.specs.Calls.{put_bytes, lay_at, put_at, put_check, clear_at, payload_at, payload_check, lay_outcome}

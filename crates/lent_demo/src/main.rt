@@ -11,10 +11,12 @@ ghost use Rattle.partition.specs.Meanings.{count_means};
 ghost use Rattle.rows.specs.Row.{partitions_read, row_outcome, RowEnds};
 ghost use Rattle.lent_demo.specs.Marked.{marked_row};
 
-use crate::say::{number, text};
+use crate::say::number;
+use console::Output;
 use header::{Header, Revision, SumFound};
 use partition::{Flags, Partition, PartitionCount};
 use rows::Entry;
+use std::io::Write;
 use units::{Guid, Lba, Slot, Stored, Tail};
 
 // The answer of a reading, and the row that was lent to it.
@@ -50,37 +52,37 @@ fn read_four(img: &[u8], h: Header, b: u64) -> Reading
     reading_of(answer, row)
 }
 
-fn show_answer(answer: PartitionCount) {
+fn show_answer(answer: PartitionCount, out: &mut Output<impl Write>) {
     match answer {
         PartitionCount::Refused(w) => {
-            number(b"refused ", w.number() as u64);
-            text(b"\n");
+            number(b"refused ", w.number() as u64, out);
+            out.text(b"\n");
         }
         PartitionCount::Present(n) => {
-            number(b"present ", n as u64);
-            text(b"\n");
+            number(b"present ", n as u64, out);
+            out.text(b"\n");
         }
     }
 }
 
-fn show_entry(e: Entry) {
+fn show_entry(e: Entry, out: &mut Output<impl Write>) {
     let s = e.slot;
     let p = e.partition;
-    number(b"  ", s.0 as u64);
-    number(b" ", p.first_lba.0);
-    number(b" ", p.last_lba.0);
-    text(b"\n");
+    number(b"  ", s.0 as u64, out);
+    number(b" ", p.first_lba.0, out);
+    number(b" ", p.last_lba.0, out);
+    out.text(b"\n");
 }
 
-fn show(case: &[u8], r: Reading) {
+fn show(case: &[u8], r: Reading, out: &mut Output<impl Write>) {
     let answer = r.answer;
     let row = r.row;
-    text(case);
-    show_answer(answer);
-    show_entry(row[0]);
-    show_entry(row[1]);
-    show_entry(row[2]);
-    show_entry(row[3]);
+    out.text(case);
+    show_answer(answer, out);
+    show_entry(row[0], out);
+    show_entry(row[1], out);
+    show_entry(row[2], out);
+    show_entry(row[3], out);
 }
 
 // A partition of a type that only its first field tells from the nil type.
@@ -128,41 +130,53 @@ fn header_for(img: &[u8; 2048]) -> Header {
 }
 
 // Stores an entry in a slot of the array.
-fn put(img: &mut [u8; 2048], slot: u64, p: Partition)
+fn put(img: &mut [u8; 2048], slot: u64, p: Partition, out: &mut Output<impl Write>)
     requires { 1 ≤ slot }
 {
     match p.write_to_device(img, slot - 1, Lba(2), 512, 128) {
         Stored::Bytes(_n) => (),
-        Stored::Refused(w) => show_answer(PartitionCount::Refused(w)),
+        Stored::Refused(w) => show_answer(PartitionCount::Refused(w), out),
     }
 }
 
 // Lends a row for one reading, and shows it.
-fn show_reading(case: &[u8], img: &[u8; 2048], h: Header, b: u64) {
-    show(case, read_four(img, h, b));
+fn show_reading(case: &[u8], img: &[u8; 2048], h: Header, b: u64, out: &mut Output<impl Write>) {
+    show(case, read_four(img, h, b), out);
 }
 
-fn main() {
-    builders::show();
+fn main(rt: HostRuntime) {
+    let mut out = Output::new(rt.stdout());
+    builders::show(&mut out);
     let mut img = [0u8; 2048];
-    put(&mut img, 2, blocks(1, 34, 40));
-    put(&mut img, 5, blocks(0, 41, 41));
-    put(&mut img, 8, blocks(1, 50, 60));
+    put(&mut img, 2, blocks(1, 34, 40), &mut out);
+    put(&mut img, 5, blocks(0, 41, 41), &mut out);
+    put(&mut img, 8, blocks(1, 50, 60), &mut out);
     show_reading(
         b"three entries, one of the nil type: ",
         &img,
         header_for(&img),
         512,
+        &mut out,
     );
-    put(&mut img, 3, blocks(1, 61, 70));
+    put(&mut img, 3, blocks(1, 61, 70), &mut out);
     show_reading(
         b"four entries, which just fill the row: ",
         &img,
         header_for(&img),
         512,
+        &mut out,
     );
-    put(&mut img, 7, blocks(1, 71, 80));
-    show_reading(b"five entries: ", &img, header_for(&img), 512);
-    show_reading(b"another check sum: ", &img, header_of(0), 512);
-    show_reading(b"another block size: ", &img, header_for(&img), 1000);
+    put(&mut img, 7, blocks(1, 71, 80), &mut out);
+    show_reading(b"five entries: ", &img, header_for(&img), 512, &mut out);
+    show_reading(b"another check sum: ", &img, header_of(0), 512, &mut out);
+    show_reading(
+        b"another block size: ",
+        &img,
+        header_for(&img),
+        1000,
+        &mut out,
+    );
+    if !out.is_ok() {
+        console::complain(&mut rt.stderr(), b"lent_demo: cannot write the output\n");
+    }
 }

@@ -1,11 +1,8 @@
-// What the program prints: a text, and a number behind one.
-use libc::STDOUT_FILENO;
+// What the program prints: a number behind a text.
+use console::Output;
+use std::io::Write;
 
-pub fn text(s: &[u8]) {
-    io::write_all(STDOUT_FILENO, s);
-}
-
-pub fn number(before: &[u8], n: u64) {
-    text(before);
-    io::print_decimal(STDOUT_FILENO, n);
+pub fn number(before: &[u8], n: u64, out: &mut Output<impl Write>) {
+    out.text(before);
+    out.decimal(n);
 }

@@ -9,7 +9,7 @@ use borrow.Author.Tests.{lt-ltb, le-ltb}
 use lib.Dec.{ltb}
 use lib.ListN.{length, take, drop, get_or, drop_of_length-le}
 use lib.Seq.{drop-cons}
-use Rattle.units.proofs.Chains.{when-none, judged-none, judged-zero, found, number-of}
+use Rattle.units.proofs.Chains.{when-none, judged-none, judged-zero, number-of}
 use Rattle.units.specs.declared.why.Why.{Why}
 use Rattle.units.specs.Answer.{refused, if_zero, judged, plain, Answer, accepted, and_then, beside}
 use Rattle.units.specs.Bytes.{all_zero}

@@ -6,7 +6,6 @@ use mathlib.Core.List.{List, [], ◌∷◌}
 use Prim.Native.Nat.{ℕ, zero, suc, ◌+◌, ◌*◌, ◌-◌, ◌≤◌, ◌<◌}
 use native.Mathlib.Omega.{arith}
 use lib.ListN.{length, get_or, take}
-use Rattle.units.proofs.Chains.{past}
 use Rattle.units.specs.Answer.{pick}
 use Rattle.units.specs.Bytes.{part, all_zero}
 use Rattle.units.proofs.Lists.{part-part}

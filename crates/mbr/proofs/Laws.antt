@@ -1,29 +1,28 @@
 -- The laws of the MBR's bytes: their lengths, what is written reads back, what is read is written back, and what a write leaves as it was.
 -- No contract cites this file. Assumes nothing.
 use mathlib.Core.Path.{◌≡◌, refl, sym, ap, ◌∙◌}
-use mathlib.Core.Logic.{◌⊎◌, inl, inr, ⊎_elim}
+use mathlib.Core.Logic.{◌⊎◌, inl, inr}
 use mathlib.Core.Bool.{Bool, true, false, not}
-use mathlib.Core.List.{List, [], ◌∷◌, ◌++◌, map, append_assoc}
+use mathlib.Core.List.{List, [], ◌∷◌, ◌++◌, append_assoc}
 use Prim.Native.Nat.{ℕ, zero, suc, ◌+◌, ◌*◌, ◌-◌, ◌^◌, ◌≤◌, ◌<◌}
 use native.Mathlib.Nat.{add-zero}
 use native.Mathlib.Omega.{arith}
 use lib.Dec.{eqb}
-use lib.ListN.{length, length-map, drop, get_or, length-append, drop_of_length-le}
+use lib.ListN.{length, drop, get_or, length-append, drop_of_length-le}
 use lib.Seq.{drop-cons, sets, length-sets, take_at, drop_at, get_or-drop}
-use borrow.Author.Rules.{length_unmapped}
-use borrow.Author.Tests.{eq-eqb, le-leb, lt-leb, leb-true, not-false}
+use borrow.Author.Tests.{eq-eqb, le-leb, lt-leb, leb-true}
 use denote.Shadow.{shadow}
 use denote.Array.{each}
 use denote.Struct.Declared.{row}
 use mir.Val.{Val}
-use Rattle.units.specs.Answer.{Answer, accepted, refused, number_of, refuse, pick, gives, Ends}
+use Rattle.units.specs.Answer.{Answer, accepted, number_of, refuse, pick, gives, Ends}
 use Rattle.units.specs.Bytes.{part, num, bytes, same}
 use Rattle.units.specs.Places.{good_size, inside}
 use Rattle.units.specs.Held.{Small}
 use Rattle.units.proofs.Lists.{part_join, length_part, part-part, part-split, part_in, part_same, part_out, sets_then, drop-next, drop-sets}
 use Rattle.units.proofs.Laws.{size-range, length-bytes, field-here, num-part, num-out, num-drop, bytes-num, same_refl}
 use Rattle.units.proofs.GuidLaws.{tail-part}
-use Rattle.mbr.specs.contracts.PartRecord.{the_type as record-type, the_field as record-field}
+use Rattle.mbr.specs.contracts.PartRecord.{the_type as record-type, the_row as record-row}
 use Rattle.mbr.specs.contracts.ProtectiveMbr.{the_type as mbr-type}
 use Rattle.mbr.specs.declared.PartRecord.{PartRecord}
 use Rattle.mbr.specs.declared.ProtectiveMbr.{ProtectiveMbr}
@@ -74,7 +73,7 @@ fit-record-of p vs o =
     let f = o.1.1 in
     record { start = f.1.1.1.1.1.1.1.1.0.1; size = f.1.1.1.1.1.1.1.1.1.0.1 }
 
-fits_each : (ps : List PartRecord) (us : List Val) (i : ℕ) → shadow (each record-field.row.Denot record-field.row.own_val (map record-field.into ps) us) → FitRecord (get_or ps i zero_record)
+fits_each : (ps : List PartRecord) (us : List Val) (i : ℕ) → shadow (each record-row.Denot record-row.own_val ps us) → FitRecord (get_or ps i zero_record)
 fits_each [] us i s = record { start = omega arith; size = omega arith }
 fits_each (p ∷ ps) [] i s = absurd s
 fits_each (p ∷ ps) (u ∷ us) zero s =
@@ -86,10 +85,10 @@ pub fit-mbr-of : (m : ProtectiveMbr) (vs : List Val) → shadow ((row mbr-type).
 fit-mbr-of m vs o =
     let f = o.1.1 in
     record {
-      boot = length_unmapped ℕ m.bootcode 440 f.0.1.0.1;
-      sign = length_unmapped ℕ m.disk_signature 4 f.1.0.1.0.1;
+      boot = f.0.1.0.1;
+      sign = f.1.0.1.0.1;
       unknown = f.1.1.0.1;
-      count = sym (length-map m.partitions record-field.into) ∙ f.1.1.1.0.1.0.1;
+      count = f.1.1.1.0.1.0.1;
       records = λ i. fits_each m.partitions _ i f.1.1.1.0.1.1;
     }
 

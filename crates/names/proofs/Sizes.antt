@@ -1,14 +1,13 @@
 -- How much room a character takes: its units in a name, its bytes as they are stored, and all bytes of the text of a name. Assumes nothing.
 use mathlib.Core.Path.{◌≡◌, refl}
-use mathlib.Core.Bool.{true}
-use mathlib.Core.List.{List, [], ◌∷◌, ◌++◌}
+use mathlib.Core.List.{List, [], ◌∷◌}
 use Prim.Native.Nat.{ℕ, zero, suc, ◌+◌, ◌*◌, ◌-◌, ◌/◌, ◌%◌, ◌≤◌, ◌<◌}
 use native.Mathlib.Omega.{arith}
-use borrow.Author.Tests.{lt-ltb, le-ltb, ltb-false, leb-true, leb-false, eqb-false}
+use borrow.Author.Tests.{lt-ltb, le-ltb, ltb-false, leb-false, eqb-false}
 use lib.Dec.{leb, ltb, eqb}
 use lib.ListN.{length, get_or, set, length-append}
 use lib.Seq.{sets}
-use Rattle.units.proofs.Laws.{by-pick, and_both}
+use Rattle.units.proofs.Laws.{by-pick}
 use Rattle.text.proofs.Laws.{between-true}
 use Rattle.names.specs.declared.inner.Scalar.{Scalar}
 use Rattle.text.specs.Ranges.{between}

@@ -1,5 +1,5 @@
 -- One character: its bytes in UTF-8 (RFC 3629, sections 3 and 4) and its units in UTF-16 (RFC 2781, section 2). Assumes nothing.
-use Rattle.std.specs.Prelude.{Bool, ◌&&◌, List, [], ◌∷◌, ℕ, ◌+◌, ◌*◌, ◌-◌, ◌/◌, ◌%◌, leb, ltb, eqb, length, get_or}
+use Rattle.std.specs.Prelude.{Bool, List, [], ◌∷◌, ℕ, ◌+◌, ◌*◌, ◌-◌, ◌/◌, ◌%◌, ltb, eqb, length, get_or}
 use Rattle.units.specs.Answer.{pick}
 use Rattle.text.specs.Ranges.{between}
 use Rattle.names.specs.declared.inner.Scalar.{Scalar}

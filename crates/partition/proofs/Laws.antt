@@ -11,7 +11,7 @@ use native.Mathlib.Omega.{arith}
 use lib.Dec.{eqb, leb}
 use lib.ListN.{length, take, drop, get_or, set, replicate, length-append, length-replicate, drop_of_length-le, get_or-append, get_or-replicate, take-append-drop}
 use lib.Seq.{drop-cons, sets, sets-eq, get_or-take, get_or-append-add, get_or-drop, length-take-le, take_at, drop_at}
-use borrow.Author.Rules.{length_unmapped, elem_fits_field}
+use borrow.Author.Rules.{elem_Fits}
 use borrow.Author.Tests.{eq-eqb, ne_eqb, le-leb, lt-leb}
 use denote.Shadow.{shadow}
 use denote.Struct.Declared.{row}
@@ -193,8 +193,8 @@ fit-entry-of p vs o =
       first = f.1.1.0.1.1.0.1;
       last = f.1.1.1.0.1.1.0.1;
       flags = fit-flags-of _ _ f.1.1.1.1.0;
-      long = length_unmapped ℕ p.name 36 f.1.1.1.1.1.0.1.0.1;
-      units = λ i. (elem_fits_field w16 w16 p.name _ i f.1.1.1.1.1.0.1.1 tt).fits;
+      long = f.1.1.1.1.1.0.1.0.1;
+      units = λ i. (elem_Fits w16 w16 p.name _ i f.1.1.1.1.1.0.1.1 tt).fits;
     }
 
 -- and so do the last eight bytes of its GUIDs: every entry that the code owns is held

@@ -7,8 +7,7 @@ use Rattle.units.specs.Meanings.{verdict_means, made_by, one-meaning, beside-one
 use Rattle.partition.specs.declared.FlagBits.{FlagBits}
 use Rattle.partition.specs.declared.FlagBits.TheVariants as bits
 use Rattle.partition.specs.declared.Length.{Length}
-use Rattle.partition.specs.declared.Length.TheVariants as length
-use Rattle.partition.specs.declared.Partition.{Partition}
+use Rattle.partition.specs.declared.Length.TheVariants as lengths
 use Rattle.partition.specs.declared.PartitionRead.{PartitionRead}
 use Rattle.partition.specs.declared.PartitionCount.{PartitionCount}
 use Rattle.partition.specs.declared.PartitionCount.TheVariants as count
@@ -21,8 +20,8 @@ bits_means (bits.Bits n) = accepted n
 bits_means (bits.Refused w) = refused_by w
 
 abbrev pub length_means : Length → Answer ℕ
-length_means (length.Count n) = accepted n
-length_means (length.Refused w) = refused_by w
+length_means (lengths.Count n) = accepted n
+length_means (lengths.Refused w) = refused_by w
 
 abbrev pub read_means : PartitionRead → Beside Found
 read_means r = record { verdict = verdict_means r.verdict; value = record { present = r.present; partition = r.partition } }
@@ -46,12 +45,12 @@ bits_back (bits.Refused w) = ap bits.Refused (back w)
 pub bits-one : (r s : FlagBits) → bits_means r ≡ bits_means s → r ≡ s
 bits-one = one-meaning bits_means (made_by bits.Bits bits.Refused) bits_back
 
-length_back : (r : Length) → made_by length.Count length.Refused (length_means r) ≡ r
-length_back (length.Count n) = refl
-length_back (length.Refused w) = ap length.Refused (back w)
+length_back : (r : Length) → made_by lengths.Count lengths.Refused (length_means r) ≡ r
+length_back (lengths.Count n) = refl
+length_back (lengths.Refused w) = ap lengths.Refused (back w)
 
 pub length-one : (r s : Length) → length_means r ≡ length_means s → r ≡ s
-length-one = one-meaning length_means (made_by length.Count length.Refused) length_back
+length-one = one-meaning length_means (made_by lengths.Count lengths.Refused) length_back
 
 pub read_one : (r s : PartitionRead) → read_means r ≡ read_means s → r ≡ s
 read_one r s e =

@@ -1,9 +1,9 @@
 -- A staged update from tables that the check accepts: what the tables are after each stage, and what the reader shows: the old table through the second stage, the new
 -- one from the third on, sums that are equal by accident included. No contract cites this file. Assumes nothing.
-use mathlib.Core.Path.{◌≡◌, refl, sym, ap, ◌∙◌, subst}
-use mathlib.Core.Bool.{Bool, true, false}
+use mathlib.Core.Path.{◌≡◌, refl, sym, ap, ◌∙◌}
+use mathlib.Core.Bool.{true}
 use mathlib.Core.List.{List}
-use Prim.Native.Nat.{ℕ, zero, suc, ◌*◌, ◌-◌, ◌^◌, ◌≤◌, ◌<◌}
+use Prim.Native.Nat.{ℕ, zero, suc, ◌-◌, ◌^◌, ◌≤◌, ◌<◌}
 use native.Mathlib.Omega.{arith}
 use lib.ListN.{length}
 use Rattle.units.specs.Guids.{guid_at}
@@ -19,8 +19,8 @@ use Rattle.tables.proofs.LensLaws.{Whole}
 use Rattle.tables.proofs.EntryLaws.{Entries, entries-set, length-zeros, ok_of, ok-zeros, overlaps-zeros, twins-unused, twins-alone, unused-zeros}
 use Rattle.tables.proofs.Good.{Good, room-ok, check-good}
 use Rattle.history.proofs.Changes.{small-zeros, put-ok, clear-check, clear-slot}
-use Rattle.reader.specs.Reader.{passes, Shown, table, table_of, shown}
-use Rattle.staged.specs.Stages.{fixed, slot_stage, header_stage, stage, after_stages}
+use Rattle.reader.specs.Reader.{passes, table, shown}
+use Rattle.staged.specs.Stages.{fixed, slot_stage, header_stage, after_stages}
 use Rattle.pulled.proofs.Readers.{Held, AllBytes, guid-held, small-entry, zero-passes, lay-passes, lay-shows, shown-front, shown-back}
 
 module _ (B n : ℕ) (t : Tables) (s : ℕ) (e : List ℕ) where

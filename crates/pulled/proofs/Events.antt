@@ -1,6 +1,6 @@
 -- A card that stands and what its slots hold, through one event and any list of events. No contract cites this file. Assumes nothing.
 use mathlib.Core.Path.{◌≡◌, refl, sym, ap, ◌∙◌, subst}
-use mathlib.Core.Bool.{Bool, true, false, ◌&&◌, ◌||◌}
+use mathlib.Core.Bool.{Bool, true, false, ◌||◌}
 use mathlib.Core.List.{List, [], ◌∷◌}
 use Prim.Native.Nat.{ℕ, zero, suc, ◌+◌, ◌-◌, ◌^◌, ◌≤◌, ◌<◌}
 use native.Mathlib.Omega.{arith}
@@ -16,7 +16,6 @@ use Rattle.partition.specs.declared.Partition.{Partition}
 use Rattle.partition.specs.Format.{entry_bytes, named}
 use Rattle.partition.specs.Array.{Found}
 use Rattle.partition.specs.Held.{PartitionHeld}
-use Rattle.partition.proofs.Laws.{length-entry}
 use Rattle.tables.specs.Places.{array_blocks}
 use Rattle.tables.specs.Lens.{Tables, tables_at, with_tables_at, OutsideTables}
 use Rattle.tables.specs.Entries.{zeros, entry, set_entry}
@@ -43,7 +42,7 @@ use Rattle.staged.specs.Stages.{fixed, after_stages}
 use Rattle.staged.specs.Repairs.{repair_of, after_repair}
 use Rattle.staged.specs.Stores.{stored}
 use Rattle.pulled.specs.Life.{Event, called, put_stages, clear_stages, repair_stages, update_image, repair_image, happens_at, happens, live, after_event, after_event_byte, told_by, told_byte_by, mends, whole_after, Lived}
-use Rattle.pulled.proofs.Readers.{Held, small-entry, reads-shown}
+use Rattle.pulled.proofs.Readers.{small-entry, reads-shown}
 use Rattle.pulled.proofs.Cuts.{put-fresh, clear-fresh, after_more, after-4}
 use Rattle.pulled.proofs.Stores.{Fit, stored-stages, stored-repair}
 use Rattle.pulled.proofs.Standing.{Stands, Sound, stands-shows, stands-card, card-stands, stages-old, stages-new, repair-stands, repair-card}

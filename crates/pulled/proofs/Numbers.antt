@@ -1,23 +1,20 @@
 -- The numbers of the stages: a stage is accepted exactly where its state leads to it; an accepted stage one leads through all of them, and their stores are those of
 -- staged/specs/Stores; and 26 refuses no slot, block size, length and stage that some accepted stage one leads to. No contract cites this file. Assumes nothing.
-use mathlib.Core.Path.{◌≡◌, refl, sym, ap, ◌∙◌, subst}
-use mathlib.Core.Bool.{Bool, true, false, not, ◌&&◌}
+use mathlib.Core.Path.{◌≡◌, refl, sym, ap, ◌∙◌}
+use mathlib.Core.Bool.{not}
 use mathlib.Core.List.{List}
-use Prim.Native.Nat.{ℕ, zero, suc, ◌+◌, ◌-◌, ◌^◌, ◌≤◌, ◌<◌}
+use Prim.Native.Nat.{ℕ, zero, suc, ◌+◌, ◌^◌, ◌≤◌, ◌<◌}
 use native.Mathlib.Omega.{arith}
-use borrow.Author.Tests.{not-false, not-true, eqb-true, eq-eqb, leb-true, le-leb, le-ltb}
-use lib.Dec.{eqb, leb, ltb}
+use borrow.Author.Tests.{eq-eqb, le-leb}
 use lib.ListN.{length}
-use Rattle.units.specs.declared.why.Why.{Why}
-use Rattle.units.specs.Answer.{accepted, gives, plain, when}
-use Rattle.units.specs.Places.{good_size}
-use Rattle.units.proofs.Chains.{else-none, else-second, when-none, none-when, settle-accepted}
+use Rattle.units.specs.Answer.{accepted, gives, plain}
+use Rattle.units.proofs.Chains.{else-none, when-none, settle-accepted}
 use Rattle.tables.specs.Places.{array_blocks}
 use Rattle.tables.specs.Lens.{Front, tables_at}
 use Rattle.tables.specs.Entries.{zeros}
-use Rattle.tables.specs.Check.{room_check, bad_slot, check, slot_check}
+use Rattle.tables.specs.Check.{room_check, check, slot_check}
 use Rattle.card.specs.Calls.{put_check, lay_at}
-use Rattle.tables.proofs.Orders.{both, and_left, and_right, neither}
+use Rattle.tables.proofs.Orders.{both}
 use Rattle.tables.proofs.Room.{Room}
 use Rattle.tables.proofs.EntryLaws.{length-zeros}
 use Rattle.tables.proofs.Good.{room-ok, slot_ok, check-good}
@@ -29,10 +26,10 @@ use Rattle.reader.specs.Reader.{reader_check}
 use Rattle.staged.specs.declared.Update.{Update}
 use Rattle.staged.specs.declared.Repair.{Repair}
 use Rattle.staged.specs.Stages.{fixed}
-use Rattle.staged.specs.Repairs.{mended, repair_of}
-use Rattle.staged.specs.Stores.{slot_store, header_store, zero_store, block_store, stage_store, stored, repair_store, repair_stored}
-use Rattle.staged.specs.Numbers.{start_put_at, start_clear_at, onward, leads, next_check, next_at, start_repair_at, onward_repair, leads_repair, next_repair_check, next_repair_at}
-use Rattle.staged.proofs.Leads.{Leads, next-leads, slot-good, room-here, LeadsRepair, repair-leads}
+use Rattle.staged.specs.Repairs.{repair_of}
+use Rattle.staged.specs.Stores.{slot_store, stage_store, stored, repair_store, repair_stored}
+use Rattle.staged.specs.Numbers.{start_put_at, start_clear_at, leads, next_check, next_at, start_repair_at, leads_repair, next_repair_check, next_repair_at}
+use Rattle.staged.proofs.Leads.{Leads, next-leads, slot-good, room-here, repair-leads}
 use Rattle.pulled.proofs.Readers.{Held, held_of, zero-passes, shown-front, reads-shown}
 
 -- ---- what an accepted later stage says (`Leads` in staged/proofs), and the other way

@@ -3,7 +3,7 @@
 use mathlib.Core.Path.{◌≡◌, refl, sym, ap, ◌∙◌, subst}
 use mathlib.Core.Logic.{inl, inr}
 use mathlib.Core.Bool.{Bool, true, false, not, ◌&&◌}
-use mathlib.Core.List.{List, [], ◌∷◌, ◌++◌}
+use mathlib.Core.List.{List, [], ◌∷◌}
 use Prim.Native.Nat.{ℕ, zero, suc, ◌+◌, ◌*◌, ◌-◌, ◌^◌, ◌≤◌, ◌<◌}
 use native.Mathlib.Nat.{pow-suc}
 use native.Mathlib.Omega.{arith}
@@ -14,7 +14,7 @@ use lib.Seq.{sets, length-take-le}
 use Rattle.units.specs.Answer.{pick}
 use Rattle.units.specs.Bytes.{part, le, num, same}
 use Rattle.units.specs.Guids.{guid_at, guid_bytes}
-use Rattle.units.specs.Held.{Small, FitGuid, GuidHeld}
+use Rattle.units.specs.Held.{Small, GuidHeld}
 use Rattle.units.proofs.Chains.{here, number-of, else-none}
 use Rattle.units.proofs.Lists.{length_part, part-all, get_d-in, get_d-out}
 use Rattle.units.proofs.Laws.{small-part, small-eight}

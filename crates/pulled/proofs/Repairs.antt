@@ -2,7 +2,7 @@
 -- No contract cites this file. Assumes nothing.
 use mathlib.Core.Path.{◌≡◌, refl, sym, ap, ◌∙◌, subst}
 use mathlib.Core.Bool.{Bool, true, false, not}
-use mathlib.Core.List.{List, [], ◌∷◌, ◌++◌}
+use mathlib.Core.List.{List, ◌∷◌, ◌++◌}
 use Prim.Native.Nat.{ℕ, zero, suc, ◌+◌, ◌*◌, ◌-◌, ◌^◌, ◌≤◌, ◌<◌}
 use native.Mathlib.Nat.{add-zero, zero-add, suc-add, add-mul, suc-mul, zero-mul, mul-le-mul_right}
 use native.Mathlib.Omega.{arith}
@@ -30,7 +30,7 @@ use Rattle.tables.proofs.LensLaws.{Whole}
 use Rattle.tables.proofs.EntryLaws.{length-zeros}
 use Rattle.tables.proofs.HeaderLaws.{copy-passes}
 use Rattle.tables.proofs.Good.{room-ok, good-check}
-use Rattle.reader.specs.Reader.{passes, Shown, shown, reader_check, takes_back}
+use Rattle.reader.specs.Reader.{passes, shown, reader_check, takes_back}
 use Rattle.staged.specs.declared.Repair.{Repair}
 use Rattle.staged.specs.Stages.{header_stage}
 use Rattle.staged.specs.Repairs.{repair_from, repair_of, zero_stage, block_stage, repair_stage, after_repair}

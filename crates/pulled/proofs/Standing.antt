@@ -1,7 +1,7 @@
 -- A card that stands: the table that the reader takes is lay's, block for block. It stands through every stage of an update and of a repair, and where the check accepts it both tables are lay's.
 -- No contract cites this file. Assumes nothing.
 use mathlib.Core.Path.{◌≡◌, refl, sym, ap, ◌∙◌, subst}
-use mathlib.Core.Bool.{Bool, true, false}
+use mathlib.Core.Bool.{true, false}
 use mathlib.Core.List.{List, ◌++◌}
 use Prim.Native.Nat.{ℕ, zero, suc, ◌+◌, ◌-◌, ◌^◌, ◌≤◌, ◌<◌}
 use native.Mathlib.Omega.{arith}
@@ -9,7 +9,7 @@ use lib.ListN.{length, take, replicate}
 use lib.Seq.{length-take-le, take_at}
 use Rattle.units.specs.Guids.{guid_at}
 use Rattle.units.specs.Held.{Small}
-use Rattle.units.proofs.Laws.{Low, low-append, small-part}
+use Rattle.units.proofs.Laws.{low-append, small-part}
 use Rattle.crc32.specs.Crc.{crc}
 use Rattle.crc32.specs.Register.{crc-fits}
 use Rattle.header.specs.declared.Header.{Header}
@@ -20,20 +20,20 @@ use Rattle.tables.specs.Places.{array_blocks}
 use Rattle.tables.specs.Lens.{Side, Front, Back, Copy, Tables, copy_at, with_copy, with_array}
 use Rattle.tables.specs.Entries.{zeros, set_entry}
 use Rattle.tables.specs.Headers.{card_header, head_block, copy_of, card_of}
-use Rattle.tables.specs.Check.{room_check, table_check, head_of, guid_of, check}
+use Rattle.tables.specs.Check.{table_check, head_of, guid_of, check}
 use Rattle.card.specs.Calls.{changed}
 use Rattle.tables.proofs.Orders.{by-test}
 use Rattle.tables.proofs.Room.{Room}
 use Rattle.tables.proofs.LensLaws.{Whole}
 use Rattle.tables.proofs.EntryLaws.{length-zeros, Entries}
 use Rattle.tables.proofs.HeaderLaws.{fit-card, passed-header}
-use Rattle.tables.proofs.Good.{Good, room-ok, check-good, card-whole}
+use Rattle.tables.proofs.Good.{Good, check-good, card-whole}
 use Rattle.history.proofs.Changes.{small-zeros}
-use Rattle.reader.specs.Reader.{passes, Shown, table, table_of, shown}
+use Rattle.reader.specs.Reader.{passes, table, table_of, shown}
 use Rattle.staged.specs.declared.Repair.{Repair}
 use Rattle.staged.specs.Stages.{fixed, after_stages}
 use Rattle.staged.specs.Repairs.{repair_of, repair_from, after_repair}
-use Rattle.pulled.proofs.Readers.{Held, AllBytes, guid-held, passes-zero, zero-passes, lay-guid, lay-passes, lay-shows, shown-front, shown-back}
+use Rattle.pulled.proofs.Readers.{Held, AllBytes, passes-zero, zero-passes, lay-guid, lay-passes, lay-shows, shown-front, shown-back}
 use Rattle.pulled.proofs.Cuts.{after_more, after-1, after-2, after-3, after-4}
 use Rattle.pulled.proofs.Repairs.{zeros-split, zeros-head, zeroed, repair-front-of, repair-back-of, repair-all, repair-more}
 

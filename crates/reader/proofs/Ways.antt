@@ -2,23 +2,23 @@
 use mathlib.Core.Path.{◌≡◌, refl, sym, ap, ◌∙◌}
 use mathlib.Core.Bool.{Bool, true, false, not}
 use mathlib.Core.List.{List, [], ◌∷◌}
-use Prim.Native.Nat.{ℕ, zero, suc, ◌+◌, ◌*◌, ◌-◌, ◌≤◌, ◌<◌}
+use Prim.Native.Nat.{ℕ, zero, suc, ◌+◌, ◌*◌, ◌-◌, ◌≤◌}
 use native.Mathlib.Omega.{arith}
 use borrow.Author.Tests.{eq-eqb, ne_eqb, le-leb}
 use lib.ListN.{length, take, drop}
 use Rattle.units.specs.declared.why.Why.{Why}
 use Rattle.units.specs.declared.Refusal.{Refusal}
-use Rattle.units.specs.Answer.{Answer, accepted, refused, plain, pick, when, or_else, if_zero, judged, Beside, beside}
+use Rattle.units.specs.Answer.{accepted, refused, plain, pick, when, or_else, if_zero, judged, Beside, beside}
 use Rattle.units.specs.Bytes.{part, all_zero}
 use Rattle.units.specs.Places.{inside, inside_or_empty}
 use Rattle.units.specs.declared.Refusal.TheVariants.{NoGoodCopy}
 use Rattle.units.specs.declared.Place.{Place}
 use Rattle.units.specs.Refusals.{why, number, slot_in, refusal_of, reason_of, refused_by}
-use Rattle.units.proofs.Lists.{lent-part, length-lent}
+use Rattle.units.proofs.Lists.{lent-part}
 use Rattle.units.proofs.Chains.{found, past, judged-none, judged-some, Bare, bare-else, Named, named-is, named-else}
 use Rattle.partition.specs.declared.Partition.{Partition}
 use Rattle.partition.specs.Format.{entry_at, zero_partition}
-use Rattle.partition.specs.Array.{Found, entry_place, present, present_from, first_slot, reading_of}
+use Rattle.partition.specs.Array.{Found, entry_place, present_from, first_slot, reading_of}
 use Rattle.partition.proofs.Laws.{next-none, next-some}
 use Rattle.tables.specs.Lens.{Side, Front, Back, Copy, Tables, side_of, copy_at, tables_at, tables}
 use Rattle.tables.specs.Entries.{entries_ok}
@@ -26,7 +26,7 @@ use Rattle.tables.specs.Check.{room_check, table_check, bad_slot}
 use Rattle.tables.proofs.Good.{slot_ok}
 use Rattle.tables.proofs.Dropped.{bare-room}
 use Rattle.checking.proofs.CheckWays.{named-room}
-use Rattle.reader.specs.Reader.{passes, chosen_number, reader_check, takes_back, taken_side, taken_array, array_byte_place, side_answer, reader_count, reader_next, reader_slot_check, held_in, reader_slot}
+use Rattle.reader.specs.Reader.{passes, chosen_number, reader_check, takes_back, taken_array, array_byte_place, reader_next, reader_slot_check, held_in, reader_slot}
 
 -- ---- one table
 

@@ -1,13 +1,15 @@
 -- The laws of a plan and of the row that it fills: what each way of making a plan gives, how the entries that are left are taken one by one, and what the row holds at the end.
 -- No contract cites this file. Assumes nothing.
-use mathlib.Core.Path.{◌≡◌, refl, sym, ap, ◌∙◌}
+use mathlib.Core.Path.{◌≡◌, refl, sym, ap, subst, ◌∙◌}
 use mathlib.Core.Bool.{Bool, true, false, not}
 use mathlib.Core.List.{List, [], ◌∷◌, ◌++◌, map}
 use Prim.Native.Nat.{ℕ, zero, suc, ◌+◌, ◌*◌, ◌-◌, ◌^◌, ◌≤◌, ◌<◌}
 use native.Mathlib.Nat.{sub-zero}
 use native.Mathlib.Omega.{arith}
 use lib.Dec.{eqb, ltb, leb}
-use lib.ListN.{length, drop, get_or}
+use lib.ListN.{length, take, drop, get_or, set}
+use Rattle.std.proofs.lemmas.List.{append_assoc, append-nil, take_more_set, take-append-drop, drop-set-lt, nil_from_length}
+use Rattle.std.proofs.lemmas.Grind.{drop_more_same}
 use borrow.Author.Tests.{ltb-false, lt-ltb, le-ltb}
 use Rattle.units.specs.declared.BytePlace.{BytePlace}
 use Rattle.units.specs.declared.Slot.{Slot}
@@ -26,7 +28,7 @@ use Rattle.crc32.specs.Crc.{crc}
 use Rattle.header.specs.declared.Header.{Header}
 use Rattle.partition.specs.declared.Partition.{Partition}
 use Rattle.partition.specs.Format.{entry_at}
-use Rattle.partition.specs.Array.{entry_place, present, present_from, first_slot, array_found}
+use Rattle.partition.specs.Array.{present, present_from, first_slot, array_found}
 use Rattle.rows.specs.declared.Entry.{Entry}
 use Rattle.rows.specs.declared.inner.Plan.{Plan}
 use Rattle.rows.specs.Slots.{slots_from, first_after, place_each, typed_each}
@@ -312,6 +314,35 @@ unfolding row_outcome
 row_ends xs p row d {q} {a} {ys} e =
     by-plan xs (length row) p d e (λ o k es. a ≡ k → ys ≡ es ++ drop (length es) row → RowEnds (row_outcome o row) a ys)
     (λ es f g. record { answer = f; row = g }) (λ w f g. record { answer = f; row = g })
+
+-- ---- a row that is filled one place after another
+
+module _ (row : List Entry) (i : ℕ) where
+  -- one more place, with the first of the entries that are left
+  pub place-stored : {y z : Entry} {l more es : List Entry} → i < length row → y ≡ z → l ≡ z ∷ more → take i row ++ l ≡ es → take (i + 1) (set row i y) ++ more ≡ es
+  place-stored {y} {z} {l} {more} {es} h e f g =
+      let k : take i row ++ (z ∷ more) ≡ es = rw f at g in
+      rw (take_more_set row i y h, append_assoc, e) k
+
+  -- the places behind it are as they were
+  pub place-kept : (y : Entry) (was : List Entry) → drop i row ≡ drop i was → drop (i + 1) (set row i y) ≡ drop (i + 1) was
+  place-kept y was e = drop-set-lt (i + 1) row i y (omega arith) ∙ drop_more_same row was i e
+
+  -- when none is left, the first places hold the entries, and the others are as they were
+  pub places-full : (l es was : List Entry) → length l ≡ 0 → take i row ++ l ≡ es → drop i row ≡ drop i was → i ≡ length es → row ≡ es ++ drop (length es) was
+  places-full l es was n e f h =
+      let z : l ≡ [] = nil_from_length l n in
+      let k : take i row ≡ es = rw (z, append-nil) at e in
+      sym (take-append-drop i row) ∙ ap (λ (p : List Entry). p ++ drop i row) k ∙ ap (λ (p : List Entry). es ++ p) (f ∙ ap (λ (j : ℕ). drop j was) h)
+
+-- ---- a call that fills a lent row: its plan says what is asked, the row is filled by it, and the answer is what is shown of the count
+
+pub row-shown : (shown : Answer ℕ → Answer ℕ) (told : Answer (List Entry)) (row : List Entry) {said ask : Answer (List Entry)} {k r : Answer ℕ} {ys : List Entry}
+    → said ≡ ask → roomed (length row) ask ≡ told → shown (row_outcome told row).answer ≡ (row_outcome told row).answer
+    → RowEnds (row_outcome (roomed (length row) said) row) k ys → r ≡ shown k → RowEnds (row_outcome told row) r ys
+row-shown shown told row {said} {ask} {k} {r} {ys} e s f d m =
+    let p : RowEnds (row_outcome told row) k ys = subst (λ (a : Answer (List Entry)). RowEnds (row_outcome a row) k ys) (ap (roomed (length row)) e ∙ s) d in
+    record { answer = m ∙ ap shown p.answer ∙ f; row = p.row }
 
 -- ---- the header's array: what is found before a row is lent, with the row's 15
 pub found_within : (xs : List ℕ) (h : Header) (b m : ℕ) → roomed m (entries_found xs h b) ≡ partitions_read xs h b m

@@ -2,6 +2,7 @@
 // A reading is first planned by value, which makes every test but that of the row's length.
 // Then `fill` fills the row, or `fill_bytes` lent bytes, 136 a row, for callers to whom a row of records cannot be lent.
 ghost use Rattle.std.specs.Prelude.{◌≡◌, true, ◌+◌, ◌*◌, ◌-◌, ◌/◌, ◌^◌, ◌≤◌, ◌<◌, length};
+ghost use Rattle.std.specs.Fn.{FnOnceReturnsAt};
 ghost use Rattle.std.proofs.lemmas.List.Edits.{sets};
 ghost use Rattle.units.specs.Answer.{accepted, Ends};
 ghost use Rattle.units.specs.Places.{inside_or_empty};
@@ -178,6 +179,25 @@ pub fn fill(img: &[u8], p: Plan, row: &mut [Entry]) -> Plan
         i = i + 1;
     }
     q
+}
+
+// Every call that makes a plan, passes the row on to `fill` and answers from the plan that was carried out.
+pub fn meets<A, P: FnOnce(&[u8]) -> Plan, Q: FnOnce(Plan) -> A>(
+    img: &[u8],
+    row: &mut [Entry],
+    plan: P,
+    answer: Q,
+) -> A
+    requires plan { P.IsAlwaysCallable plan }
+    requires answer { Q.IsAlwaysCallable answer }
+    requires made { (p : Plan) → FnOnceReturnsAt P.FnOnce plan img.now p → Made img.now p }
+    ensures { (p : Plan) × (q : Plan) × FnOnceReturnsAt P.FnOnce plan img.now p
+        × RowEnds (row_outcome (roomed (length row.old) (planned img.now p)) row.old) (plan_count q) row.new
+        × Q.post answer q result }
+{
+    let p = plan(img);
+    let q = fill(img, p, row);
+    answer(q)
 }
 
 // One row in bytes, stored at a place: the slot in 8, least first, and then the record's 128.

@@ -3,8 +3,10 @@
 // Output that cannot be written is said on standard error.
 #![tactic(auto)]
 
+use console::Output;
 use listing::CardCount;
 use partition::{Flags, Partition};
+use std::io::Write;
 use units::{Guid, Lba, Slot, Tail};
 
 // The GUIDs of the sample differ in their last byte alone.
@@ -39,10 +41,8 @@ fn unit_of(text: &[u8], i: usize) -> u16 {
 // The units of a name, cut at 36.
 fn name_of(text: &[u8]) -> [u16; 36] {
     let mut name = [0u16; 36];
-    let mut i = 0;
-    while i < 36 {
+    for i in 0..36 {
         name[i] = unit_of(text, i);
-        i += 1;
     }
     name
 }
@@ -78,31 +78,34 @@ fn used(img: &[u8]) -> u32 {
     }
 }
 
-// Writes the card if it holds its three slots. `ok` says whether all that was printed was written.
-fn write(img: &[u8], ok: &mut bool) {
+// Writes the card if it holds its three slots.
+fn write(img: &[u8], out: &mut Output<impl Write>, errors: &mut impl Write) {
     if used(img) == 3 {
-        console::text(img, ok);
+        out.text(img);
     } else {
-        console::complain(b"sample: a call was refused\n");
+        console::complain(errors, b"sample: a call was refused\n");
     }
 }
 
-fn run(ok: &mut bool) {
+fn run(out: &mut Output<impl Write>, errors: &mut impl Write) {
     let mut img = [0u8; 65536];
     fill(&mut img);
-    write(&img, ok);
+    write(&img, out, errors);
 }
 
-// A main function in Rattle returns nothing, so the exit status is always 0 and the usage line says so.
-fn main() {
-    let mut ok = true;
+// The exit status is always 0, as the usage line says.
+fn main(rt: HostRuntime) {
+    let mut out = Output::new(rt.stdout());
+    let mut errors = rt.stderr();
     if console::no_arguments(
+        &rt,
         b"usage: sample > IMAGE (65,536 bytes; the exit status is always 0, so read what is printed on standard error)\n",
-        &mut ok,
+        &mut out,
+        &mut errors,
     ) {
-        run(&mut ok);
+        run(&mut out, &mut errors);
     }
-    if !ok {
-        console::complain(b"sample: cannot write the output\n");
+    if !out.is_ok() {
+        console::complain(&mut errors, b"sample: cannot write the output\n");
     }
 }

@@ -11,12 +11,11 @@ use lib.Dec.{eqb, ltb}
 use lib.ListN.{length, take, drop, get_or, set, take-append-drop}
 use lib.Seq.{sets, length-take-le}
 use Rattle.units.specs.declared.Guid.{Guid}
-use Rattle.units.specs.Answer.{pick}
 use Rattle.units.specs.Bytes.{part}
 use Rattle.units.proofs.Laws.{good-size}
 use Rattle.units.proofs.Lists.{part_step, part_out, store-more, lent-part, length-lent, sets-left, sets-right}
-use Rattle.tables.specs.Places.{array_blocks, back_array, back_header}
-use Rattle.tables.specs.Lens.{Side, Front, Back, Copy, Tables, side_of, other, header_in, array_in, copy_in, copy_at, tables}
+use Rattle.tables.specs.Places.{array_blocks}
+use Rattle.tables.specs.Lens.{Side, Front, Back, Tables, side_of, other, header_in, array_in, copy_in, copy_at, tables}
 use Rattle.tables.specs.Entries.{zeros}
 use Rattle.tables.specs.Headers.{head_block}
 use Rattle.tables.specs.Check.{bad_slot}

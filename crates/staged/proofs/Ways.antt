@@ -2,14 +2,14 @@
 use mathlib.Core.Path.{◌≡◌, refl, sym, ap, ◌∙◌}
 use mathlib.Core.Bool.{Bool, true, false, not, ◌&&◌}
 use mathlib.Core.List.{List}
-use Prim.Native.Nat.{ℕ, zero, suc, ◌+◌, ◌-◌, ◌≤◌}
+use Prim.Native.Nat.{ℕ, ◌+◌, ◌-◌}
 use native.Mathlib.Omega.{arith}
 use borrow.Author.Tests.{ne_eqb, eq-eqb, eqb-true}
 use lib.Dec.{eqb, leb}
 use Rattle.units.specs.declared.why.Why.{Why}
 use Rattle.units.specs.declared.CardVerdict.TheVariants as verdict
 use Rattle.units.specs.declared.Refusal.TheVariants.{BadBlockSize, WrongStage}
-use Rattle.units.specs.Answer.{Answer, accepted, refused, plain, fine, pick, when, or_else, judged, settle, gives, Ends, ends, Outcome, Beside, beside}
+use Rattle.units.specs.Answer.{Answer, accepted, refused, plain, pick, when, or_else, settle, gives, Ends, ends, Beside, beside}
 use Rattle.units.specs.Meanings.{card_means, verdict_of}
 use Rattle.units.specs.Places.{good_size}
 use Rattle.units.specs.Refusals.{why_at, reason_of}

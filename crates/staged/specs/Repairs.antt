@@ -1,6 +1,6 @@
 -- Repair: the other table gets the disk GUID and the array of the one that the reader takes, under lay's header for its place, by A + 2 stages of one block store: zeros
 -- in its header's block, its array's blocks ascending, its header. From document 02, 6/13. Assumes nothing.
-use Rattle.std.specs.Prelude.{Bool, List, ℕ, zero, suc, ◌*◌, eqb, ltb}
+use Rattle.std.specs.Prelude.{Bool, ℕ, zero, suc, ◌*◌, eqb, ltb}
 use Rattle.std.proofs.lemmas.List.Edits.{sets}
 use Rattle.units.specs.Answer.{pick}
 use Rattle.units.specs.Bytes.{part}

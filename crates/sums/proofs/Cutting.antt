@@ -3,8 +3,8 @@ use mathlib.Core.Path.{◌≡◌, sym, ap, ◌∙◌}
 use mathlib.Core.List.{List}
 use Prim.Native.Nat.{ℕ, ◌+◌, ◌-◌}
 use native.Mathlib.Omega.{arith}
-use lib.ListN.{length, take, drop, take-append-drop, length-drop}
-use lib.Seq.{drop-drop, take_all}
+use lib.ListN.{take, drop, take-append-drop}
+use lib.Seq.{drop-drop}
 use Rattle.crc32.specs.Crc.{crc_from}
 use Rattle.crc32.specs.Register.{crc-from-append}
 
@@ -16,7 +16,3 @@ next-is s n i x e =
     ∙ ap (crc_from (crc_from x (take n (drop i s)))) (sym (drop-drop n i s))
     ∙ sym (crc-from-append x (take n (drop i s)) (drop n (drop i s)))
     ∙ ap (crc_from x) (take-append-drop n (drop i s))
-
--- what is lent from i on is all that is left
-pub rest_all : (s : List ℕ) (i : ℕ) → take (length s - i) (drop i s) ≡ drop i s
-rest_all s i = take_all (length s - i) (drop i s) (simp length-drop (omega arith))

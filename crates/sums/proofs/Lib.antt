@@ -1,4 +1,2 @@
--- `Filling` has what the two functions that fill a buffer share, `Cutting` what the sum of bytes that are cut needs.
--- Assumes nothing.
-pub mod Filling
+-- `Cutting` has what the sum of bytes that are cut needs.
 pub mod Cutting

@@ -1,7 +1,7 @@
 -- The first slot that differs (`differs` in specs/Check): where two arrays are not the same, it is one of the card's, both agree at every slot before it, and they differ at it.
 -- No contract cites this file. Assumes nothing.
 use mathlib.Core.Path.{◌≡◌, sym, ap, ◌∙◌}
-use mathlib.Core.Bool.{Bool, true, false, not}
+use mathlib.Core.Bool.{true, false, not}
 use mathlib.Core.List.{List}
 use Prim.Native.Nat.{ℕ, ◌+◌, ◌*◌, ◌-◌, ◌/◌, ◌%◌, ◌≤◌, ◌<◌}
 use native.Mathlib.Nat.{div-add-mod', mod-lt, div-lt_iff_lt-mul}
@@ -12,7 +12,6 @@ use lib.Seq.{ext_get_or}
 use Rattle.units.specs.Bytes.{same}
 use Rattle.units.proofs.Lists.{get_d_part}
 use Rattle.units.proofs.Laws.{same_true, same_refl}
-use Rattle.tables.specs.Checks.{lowest}
 use Rattle.tables.specs.Entries.{entry}
 use Rattle.tables.specs.Check.{differs}
 use Rattle.tables.proofs.Orders.{split, below-lowest, at-lowest, lowest-none, lowest-is}

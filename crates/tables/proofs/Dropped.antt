@@ -1,6 +1,6 @@
 -- Dropping the place that the check names gives the check before document 02, 5/13. The tests of the room and of one table name nothing by themselves.
 -- No contract cites this file. Assumes nothing.
-use mathlib.Core.Path.{◌≡◌, refl, ap, ◌∙◌}
+use mathlib.Core.Path.{◌≡◌, refl}
 use mathlib.Core.Bool.{Bool, true, false, not, ◌&&◌}
 use mathlib.Core.List.{List}
 use Prim.Native.Nat.{ℕ, ◌+◌, ◌*◌, ◌-◌}
@@ -10,7 +10,7 @@ use Rattle.units.specs.declared.why.Why.{Why}
 use Rattle.units.specs.Answer.{plain, placed, within, dropped, when, or_else}
 use Rattle.units.specs.Bytes.{part, same}
 use Rattle.units.specs.Places.{good_size}
-use Rattle.units.proofs.Chains.{Bare, bare-when, bare-else, dropped-else, dropped-when, dropped-within, dropped-bare}
+use Rattle.units.proofs.Chains.{Bare, bare-when, bare-else, dropped-else, dropped-within, dropped-bare}
 use Rattle.crc32.specs.Crc.{crc}
 use Rattle.crc32.specs.HeaderSum.{header_sum}
 use Rattle.header.specs.Format.{signature, header_at}

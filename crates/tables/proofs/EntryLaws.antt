@@ -15,7 +15,7 @@ use Rattle.units.specs.Bytes.{part, same, all_zero}
 use Rattle.units.proofs.Lists.{part-part, part_out, part_same, length_part, get_d_part}
 use Rattle.tables.specs.Places.{first_usable_of, last_usable_of}
 use Rattle.tables.specs.Entries.{zeros, entry, set_entry, used, first_of, last_of, part_guid_of, usable, ok_entry, all_ok, overlaps, all_apart, bears, twins, entries_ok}
-use Rattle.tables.proofs.Orders.{split, by-pick, by-test, all-at, all_of, pairs-at, pairs_of, both, and_left, and_right, same_of, same-comm}
+use Rattle.tables.proofs.Orders.{split, by-pick, by-test, all-at, all_of, pairs-at, pairs_of, both, and_left, and_right, same-comm}
 
 pub length-zeros : (n : ℕ) → length (zeros n) ≡ n
 unfolding zeros

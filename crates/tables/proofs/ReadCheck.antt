@@ -1,6 +1,6 @@
 -- What the check reads of a header's 92 bytes is what a reader finds at their place in an image. Then P7's card, whose header claims a block of the back table:
 -- the check refuses it. No contract cites this file. Assumes nothing.
-use mathlib.Core.Path.{◌≡◌, refl, sym, ap, ◌∙◌}
+use mathlib.Core.Path.{◌≡◌, sym, ap, ◌∙◌}
 use mathlib.Core.Bool.{true, false, not}
 use mathlib.Core.List.{List}
 use Prim.Native.Nat.{ℕ, suc, ◌+◌, ◌≤◌}

@@ -32,6 +32,7 @@ pub struct CardText {
     pub length: usize,
 }
 
+#[tactic(auto, unfolding(answers_c::specs::Crossing::crossed))]
 fn text_to_c(r: Stored) -> CardText
     ensures { result ≡ text_to_c (stored_means r) }
 {

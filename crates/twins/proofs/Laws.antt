@@ -16,7 +16,7 @@ use Rattle.units.specs.Bytes.{part, num, same, all_zero}
 use Rattle.units.proofs.Lists.{part-part}
 use Rattle.units.proofs.Laws.{num-part, same_true}
 use Rattle.tables.specs.Checks.{all, lowest}
-use Rattle.tables.specs.Entries.{entry, used, part_guid_of, bears, twins, all_single, first_twin}
+use Rattle.tables.specs.Entries.{entry, used, part_guid_of, bears, twins, all_single}
 use Rattle.tables.proofs.Orders.{split, by-pick, by-test, all_of, triangle, lowest-none, lowest-is}
 use Rattle.tables.proofs.EntryLaws.{entry_at, used-part, twins-comm}
 use Rattle.twins.specs.Marks.{folded, mark, marked, with_mark, fresh, entered, Marked}

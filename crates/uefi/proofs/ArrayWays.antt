@@ -3,17 +3,16 @@ use mathlib.Core.Path.{◌≡◌, refl, sym, ap, ◌∙◌}
 use mathlib.Core.Bool.{Bool, true, false, not, ◌||◌}
 use mathlib.Core.List.{List, [], ◌∷◌}
 use Prim.Native.Nat.{ℕ, ◌+◌, ◌*◌, ◌-◌, ◌^◌, ◌≤◌, ◌<◌}
-use native.Mathlib.Nat.{sub-zero}
 use native.Mathlib.Omega.{arith}
 use lib.Dec.{eqb, ltb, leb}
-use lib.ListN.{length, take}
-use borrow.Author.Tests.{eq-eqb, ne_eqb, leb-false, eqb-true, ltb-false, not-false, lt-leb}
+use lib.ListN.{length}
+use borrow.Author.Tests.{eq-eqb, ne_eqb, leb-false, eqb-true, ltb-false, not-false}
 use Rattle.units.specs.declared.BytePlace.{BytePlace}
 use Rattle.units.specs.declared.Slot.{Slot}
 use Rattle.units.specs.declared.why.Why.{Why}
 use Rattle.units.specs.Answer.{Answer, accepted, refused, refuse, pick, and_then, beside}
-use Rattle.units.specs.Bytes.{part, all_zero}
-use Rattle.units.specs.Places.{good_size, inside, inside_or_empty, array_place_of}
+use Rattle.units.specs.Bytes.{part}
+use Rattle.units.specs.Places.{good_size, inside_or_empty, array_place_of}
 use Rattle.units.proofs.Laws.{by-pick}
 use Rattle.crc32.specs.Crc.{crc}
 use Rattle.header.specs.declared.Header.{Header}
@@ -21,7 +20,7 @@ use Rattle.header.specs.Writing.{array_bytes, parts_sum}
 use Rattle.partition.specs.declared.Partition.{Partition}
 use Rattle.partition.specs.Format.{nil_type_at, entry_at, zero_partition}
 use Rattle.partition.specs.Array.{reading_of}
-use Rattle.rows.specs.Slots.{slots_from, first_after, place_each, typed_each}
+use Rattle.rows.specs.Slots.{first_after, place_each, typed_each}
 use Rattle.rows.proofs.Slots.{next-none, next-some, entry-within}
 use Rattle.uefi.specs.Sizes.{good_each}
 use Rattle.uefi.specs.Array.{array_by_uefi, after_by_uefi, place_by_uefi, held_at, entry_by_uefi}

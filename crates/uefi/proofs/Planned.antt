@@ -1,5 +1,5 @@
 -- The laws of the plans by UEFI: what each way of making one gives, that no refusal names a place, and how many entries a plan counts. No contract cites this file. Assumes nothing.
-use mathlib.Core.Path.{◌≡◌, refl, sym, ap, ◌∙◌}
+use mathlib.Core.Path.{◌≡◌, refl, ap, ◌∙◌}
 use mathlib.Core.Bool.{Bool, true, false, not}
 use mathlib.Core.List.{List}
 use Prim.Native.Nat.{ℕ, ◌+◌, ◌*◌, ◌-◌, ◌/◌, ◌^◌}
@@ -7,7 +7,6 @@ use lib.Dec.{eqb, ltb, leb}
 use lib.ListN.{length}
 use Rattle.units.specs.declared.BytePlace.{BytePlace}
 use Rattle.units.specs.declared.Refusal.{Refusal}
-use Rattle.units.specs.declared.why.Why.{Why}
 use Rattle.units.specs.Answer.{Answer, accepted, refused, refuse, pick, and_then}
 use Rattle.units.specs.Bytes.{part, num, same, all_zero}
 use Rattle.units.specs.Places.{good_size, inside, inside_or_empty}
@@ -15,14 +14,14 @@ use Rattle.units.specs.Refusals.{refused_by}
 use Rattle.units.specs.Meanings.{card_means}
 use Rattle.crc32.specs.Crc.{crc}
 use Rattle.header.specs.declared.Header.{Header}
-use Rattle.header.specs.Format.{signature, header_at}
+use Rattle.header.specs.Format.{signature}
 use Rattle.header.specs.Writing.{array_bytes}
 use Rattle.rows.specs.declared.Entry.{Entry}
 use Rattle.rows.specs.declared.inner.Plan.{Plan}
 use Rattle.rows.specs.Row.{typed_entries, row_outcome}
 use Rattle.rows.specs.Plans.{Made, entries_by, planned, no_plan, nowhere, roomed, plan_count, plainly}
 use Rattle.rows.proofs.Laws.{made_none, planned-none}
-use Rattle.uefi.specs.Reading.{stated_at, bad_stated, sized_sum, header_in, block_read, primary_by_uefi, backup_by_uefi}
+use Rattle.uefi.specs.Reading.{stated_at, bad_stated, sized_sum, header_in, primary_by_uefi, backup_by_uefi}
 use Rattle.uefi.specs.Sizes.{good_each}
 use Rattle.uefi.specs.Array.{array_by_uefi, entries_by_uefi, counted, primary_entries, backup_entries}
 

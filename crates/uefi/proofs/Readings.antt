@@ -1,18 +1,15 @@
 -- What the definitions say at the edges: four points of document 02, 9/13, that could be read another way, and six sizes. No contract cites this file. Assumes nothing.
-use mathlib.Core.Path.{◌≡◌, refl, sym, ap, ◌∙◌}
-use mathlib.Core.Bool.{true, false, not}
+use mathlib.Core.Path.{◌≡◌, refl, sym, ap}
+use mathlib.Core.Bool.{true, false}
 use mathlib.Core.List.{List}
-use Prim.Native.Nat.{ℕ, ◌+◌, ◌*◌, ◌≤◌}
-use native.Mathlib.Omega.{arith}
+use Prim.Native.Nat.{ℕ, ◌+◌, ◌≤◌}
 use lib.ListN.{length}
-use borrow.Author.Tests.{eq-eqb, lt-leb}
 use Rattle.units.specs.Answer.{accepted, refuse}
-use Rattle.units.specs.Bytes.{part, all_zero}
+use Rattle.units.specs.Bytes.{all_zero}
 use Rattle.units.specs.Guids.{is_nil}
 use Rattle.units.specs.Held.{Small}
 use Rattle.units.specs.Places.{good_size, inside, inside_or_empty}
 use Rattle.units.proofs.GuidLaws.{guid-bytes-back}
-use Rattle.crc32.specs.Crc.{crc}
 use Rattle.crc32.specs.Register.{crc-from-empty}
 use Rattle.header.specs.declared.Header.{Header}
 use Rattle.partition.specs.Format.{nil_type_at, entry_at}

@@ -3,7 +3,7 @@
 use mathlib.Core.Path.{◌≡◌, refl, sym, ap, ◌∙◌}
 use mathlib.Core.Bool.{Bool, true, false}
 use mathlib.Core.List.{List, [], ◌∷◌}
-use Prim.Native.Nat.{ℕ, zero, suc, ◌+◌, ◌≤◌, ◌<◌}
+use Prim.Native.Nat.{ℕ, zero, suc, ◌≤◌, ◌<◌}
 use native.Mathlib.Omega.{arith}
 use lib.Dec.{T, ltb, ltb→lt}
 use lib.ListN.{length, get_or}
@@ -15,7 +15,7 @@ use Rattle.units.specs.declared.Place.{Place}
 use Rattle.units.specs.declared.Place.TheVariants.{Nowhere}
 use Rattle.units.specs.declared.CardVerdict.TheVariants as verdict
 use Rattle.units.specs.declared.why.Why.{Why}
-use Rattle.units.specs.Answer.{Answer, accepted, refused, plain, fine, placed, within, dropped, when, if_zero, or_else, judged, settle, gives, ends, pick}
+use Rattle.units.specs.Answer.{Answer, accepted, refused, plain, fine, placed, within, dropped, when, if_zero, or_else, judged, settle, gives, pick}
 use Rattle.units.specs.Refusals.{why, why_at, number, names, refusal_of, reason_of, later_refusal, reason-back}
 use Rattle.units.specs.Meanings.{card_means, verdict_of}
 
@@ -196,15 +196,6 @@ pub is-named : (w : Why) {k : ℕ} → w.number ≡ k → get_or (names w.slot) 
 unfolding refusal_of
 is-named w e = ap (λ (n : ℕ). get_or (names w.slot) n EmptyList) (sym e)
 
--- n is none of the k numbers behind f, in the form in which a match of code says so
-abbrev pub Passed : ℕ → ℕ → ℕ → Type 0
-Passed f zero n = Unit
-Passed f (suc k) n = Passed f k n × (n ≡ f + suc k → ⊥)
-
-passed : (f k n : ℕ) → Passed f k n → f < n → f + k < n
-passed f zero n p l = omega arith
-passed f (suc k) n p l = let h = passed f k n p.0 l in let d = p.1 in omega arith
-
 past_end : {A : Type 0} (xs : List A) (n : ℕ) (d : A) → length xs ≤ n → d ≡ get_or xs n d
 past_end [] n d h = refl
 past_end (x ∷ xs) zero d h = absurd (omega arith)
@@ -215,21 +206,21 @@ pub is_later : (w : Why) {k : ℕ} → w.number ≡ k → T (ltb 24 k) → get_o
 unfolding refusal_of
 is_later w {k} e h = let l : ltb 24 k ≡ true = lt-ltb 24 k (ltb→lt 24 k h) in rw (e, l)
 
-pub past-later : (w : Why) → Passed 24 13 w.number → EmptyList ≡ later_refusal w
+pub past-later : (w : Why) → (24 < w.number → 37 < w.number) → EmptyList ≡ later_refusal w
 unfolding refusal_of
 past-later w p = by (ltb 24 w.number) refl
   where
     by : (t : Bool) → ltb 24 w.number ≡ t → EmptyList ≡ pick t (get_or (names w.slot) w.number EmptyList) EmptyList
-    by true e = past_end (names w.slot) w.number EmptyList (omega (arith, passed 24 13 w.number p (ltb-true 24 w.number e)))
+    by true e = past_end (names w.slot) w.number EmptyList (let far : 37 < w.number = p (ltb-true 24 w.number e) in omega arith)
     by false e = refl
 
-pub later-names : (w : Why) → Passed 0 24 w.number → later_refusal w ≡ refusal_of w
+pub later-names : (w : Why) → (0 < w.number → 24 < w.number) → later_refusal w ≡ refusal_of w
 unfolding refusal_of
 later-names w p = by w.number p
   where
-    by : (n : ℕ) → Passed 0 24 n → pick (ltb 24 n) (get_or (names w.slot) n EmptyList) EmptyList ≡ get_or (names w.slot) n EmptyList
+    by : (n : ℕ) → (0 < n → 24 < n) → pick (ltb 24 n) (get_or (names w.slot) n EmptyList) EmptyList ≡ get_or (names w.slot) n EmptyList
     by zero q = refl
-    by (suc n) q = ap (λ (t : Bool). pick t (get_or (names w.slot) (suc n) EmptyList) EmptyList) (lt-ltb 24 (suc n) (passed 0 24 (suc n) q (omega arith)))
+    by (suc n) q = ap (λ (t : Bool). pick t (get_or (names w.slot) (suc n) EmptyList) EmptyList) (lt-ltb 24 (suc n) (q (omega arith)))
 
 pub verdict-fine : (w : Why) → w.number ≡ 0 → verdict.Accepted ≡ verdict_of w
 unfolding verdict_of

@@ -8,9 +8,9 @@ use native.Mathlib.Nat.{eq-zero-or-pos, lt_of_not-le, pow-suc, pow-le-pow_right,
 use native.Mathlib.Decide.{dec_le}
 use native.Mathlib.Omega.{arith}
 use lib.Bits.{bit_or, bit_xor, or_add_and, and_le_l, and_le_r, xor_add_and, xor_self}
-use lib.Dec.{eqb, ltb, leb}
+use lib.Dec.{eqb, leb}
 use lib.ListN.{length, take, drop, get_or, set, replicate, length-append, drop_of_length-le}
-use lib.Seq.{drop-cons, drop-drop, sets, take_at, drop_at, take-nil, get_or-drop}
+use lib.Seq.{drop-cons, drop-drop, sets, take_at, drop_at, get_or-drop}
 use borrow.Author.Tests.{lt-ltb, le-ltb, le-leb, lt-leb, eq-eqb, ne_eqb, leb-true, eqb-true, not-false}
 use Rattle.units.specs.declared.BytePlace.{BytePlace}
 use Rattle.units.specs.declared.why.Why.{Why}
@@ -18,7 +18,7 @@ use Rattle.units.specs.Answer.{Answer, accepted, refused, refuse, plain, pick}
 use Rattle.units.specs.Bytes.{part, le, num, bytes, total, laid, same, all_zero}
 use Rattle.units.specs.Places.{good_size, inside, place_of}
 use Rattle.units.specs.Held.{Small}
-use Rattle.units.proofs.Lists.{length_part, part-part, part_in, part_out, part_same, part_step, store-more, sets_then}
+use Rattle.units.proofs.Lists.{length_part, part-part, part_out, part_same, part_step, store-more, sets_then}
 
 -- ---- tests
 

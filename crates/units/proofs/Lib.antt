@@ -3,5 +3,4 @@ pub mod Lists
 pub mod Laws
 pub mod Chains
 pub mod GuidLaws
-pub mod Params
 pub mod Tags

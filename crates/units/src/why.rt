@@ -96,6 +96,7 @@ pub const RESERVED_FLAG: Why = Why {
 
 impl Why {
     // The refusal of document 02 by its name; the last name for a number that is none of theirs.
+    #[tactic(auto, unfolding(crate::specs::Refusals::refusal_of))]
     fn later_refusal(self) -> Refusal
         ensures { result ≡ later_refusal self }
     {
@@ -120,6 +121,7 @@ impl Why {
     }
 
     // The refusal by its name. No test gives a number past the last name.
+    #[tactic(auto, unfolding(crate::specs::Refusals::refusal_of))]
     pub fn refusal(self) -> Refusal
         ensures { result ≡ refusal_of self }
     {

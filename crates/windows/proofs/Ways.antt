@@ -1,9 +1,9 @@
 -- The ways out of the calls on windows, one law for all that read and one for all that store: what the tests told, and what the whole image then gives. No contract cites this file.
 -- Assumes nothing.
-use mathlib.Core.Path.{◌≡◌, refl, sym, ap, ◌∙◌, subst}
+use mathlib.Core.Path.{◌≡◌, refl, sym, ap, ◌∙◌}
 use mathlib.Core.Bool.{Bool, true, false, not, ◌&&◌}
 use mathlib.Core.List.{List}
-use Prim.Native.Nat.{ℕ, zero, suc, ◌+◌, ◌*◌, ◌^◌, ◌≤◌, ◌<◌}
+use Prim.Native.Nat.{ℕ, zero, suc, ◌*◌, ◌^◌, ◌≤◌, ◌<◌}
 use native.Mathlib.Omega.{arith}
 use borrow.Author.Tests.{eqb-true, eqb-false, le-leb, lt-leb}
 use lib.Dec.{eqb, leb}
@@ -21,7 +21,7 @@ use Rattle.tables.specs.Check.{room_check}
 use Rattle.tables.proofs.Orders.{by-test}
 use Rattle.tables.proofs.Dropped.{bare-room}
 use Rattle.checking.proofs.CheckWays.{named-room}
-use Rattle.windows.specs.Windows.{head_long, tail_long, head_in, tail_in, whole, window_tables, length_check, window_check, window_answer, Windowed, in_windows, windowed_by, window_outcome, WindowEnds, window_why}
+use Rattle.windows.specs.Windows.{head_long, tail_long, whole, window_tables, length_check, window_check, window_answer, in_windows, windowed_by, window_outcome, WindowEnds, window_why}
 use Rattle.windows.proofs.Whole.{Fits, fits_by, length_whole, head-whole, tail-whole, tables-whole}
 
 -- ---- the windows' own numbers

@@ -1,22 +1,20 @@
 -- The ways out of the listing of windows, one law for each: what the check told, and what the whole image then gives. No contract cites this file. Assumes nothing.
 use mathlib.Core.Path.{◌≡◌, refl, sym, ap, ◌∙◌, subst}
-use mathlib.Core.Bool.{Bool, false, not}
+use mathlib.Core.Bool.{false, not}
 use mathlib.Core.List.{List, [], map}
-use Prim.Native.Nat.{ℕ, zero, suc, ◌+◌, ◌*◌, ◌-◌}
-use native.Mathlib.Omega.{arith}
+use Prim.Native.Nat.{ℕ, ◌+◌, ◌*◌, ◌-◌}
 use lib.Dec.{ltb}
 use lib.ListN.{length, take, drop}
 use Rattle.units.specs.declared.BytePlace.{BytePlace}
 use Rattle.units.specs.declared.Reason.{Reason}
 use Rattle.units.specs.declared.why.Why.{Why}
-use Rattle.units.specs.Answer.{Answer, accepted, refused, refuse, plain, pick, when, if_zero, beside, judged}
+use Rattle.units.specs.Answer.{Answer, accepted, refused, refuse, plain, pick, when, beside, judged}
 use Rattle.units.specs.declared.CardVerdict.{CardVerdict}
 use Rattle.units.specs.Bytes.{all_zero}
 use Rattle.units.specs.Meanings.{card_means, verdict_of}
 use Rattle.units.specs.Refusals.{why_at, reason_of}
-use Rattle.units.proofs.Chains.{number-of, Named, judged-none}
+use Rattle.units.proofs.Chains.{number-of, Named}
 use Rattle.units.proofs.Lists.{lent-part}
-use Rattle.partition.specs.declared.Partition.{Partition}
 use Rattle.partition.specs.declared.PartitionRead.{PartitionRead}
 use Rattle.partition.specs.Format.{entry_at, zero_partition}
 use Rattle.partition.specs.Array.{entry_place, present, reading_of}
@@ -37,7 +35,7 @@ use Rattle.listing.specs.LentRow.{entries_in, card_entries}
 use Rattle.ground.specs.declared.RunCount.{RunCount}
 use Rattle.ground.specs.declared.inner.Counted.{Counted}
 use Rattle.ground.specs.Search.{front_runs, Checked}
-use Rattle.ground.specs.Answers.{Rows, RowsEnd, run_count_means, run_count_of, rows_outcome, ground_outcome}
+use Rattle.ground.specs.Answers.{RowsEnd, run_count_means, run_count_of, rows_outcome}
 use Rattle.ground.proofs.Ways.{lent, checked-lent, ground-refused, ground-given}
 use Rattle.card.specs.Calls.{used_check, slot_entry, partition_bytes, payload_check, payload_place, place_answer}
 use Rattle.card.proofs.PayWays.{Spanned, named-used, used-spanned, pay-placed}
@@ -46,9 +44,9 @@ use Rattle.slot_map.specs.declared.MapMade.{MapMade}
 use Rattle.slot_map.specs.Bits.{map_of}
 use Rattle.slot_map.specs.Map.{flags_from, made_means, made_of, made_answer}
 use Rattle.slot_map.proofs.Ways.{made-fine}
-use Rattle.windows.specs.Windows.{head_long, whole, window_tables, window_check, window_why, window_answer}
+use Rattle.windows.specs.Windows.{whole, window_tables, window_why, window_answer}
 use Rattle.windows.proofs.Whole.{Fits, fits_by, length_whole, tables-whole, front-whole}
-use Rattle.windows.proofs.Ways.{named-why, told-verdict, told-reason, by-window, why-fits, why-zero, window-zero, passed-why, failed-why, then_found, at-whole, answer_at, found_at, asks-refused, asks-given, if-zero, if-not}
+use Rattle.windows.proofs.Ways.{named-why, told-verdict, told-reason, by-window, window-zero, passed-why, failed-why, then_found, at-whole, answer_at, found_at, asks-refused, asks-given, if-zero, if-not}
 use Rattle.windows_reader.specs.Parts.{array_of}
 use Rattle.windows_reader.proofs.Ways.{array-side}
 use Rattle.windows_listing.specs.Ground.{ground_in}

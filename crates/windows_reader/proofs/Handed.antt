@@ -1,19 +1,19 @@
 -- What the part that is handed back has to do with the calls beside it: `good_copy` says which window it is of and where, and its list is what the reader shows. No contract cites this file. Assumes nothing.
 use mathlib.Core.Path.{◌≡◌, refl, sym, ap, ◌∙◌}
-use mathlib.Core.Bool.{Bool, false}
+use mathlib.Core.Bool.{false}
 use mathlib.Core.List.{List}
-use Prim.Native.Nat.{ℕ, ◌+◌, ◌*◌}
+use Prim.Native.Nat.{ℕ, ◌*◌}
 use native.Mathlib.Omega.{arith}
 use borrow.Author.Tests.{eqb-true, eqb-false, le-ltb}
 use lib.Dec.{eqb, ltb}
 use lib.ListN.{length}
 use Rattle.units.specs.declared.why.Why.{Why}
-use Rattle.units.specs.Answer.{Answer, accepted, refused, plain, when, or_else, judged, number_of}
+use Rattle.units.specs.Answer.{Answer, accepted, refused, plain, when, judged, number_of}
 use Rattle.units.proofs.Chains.{past, when-none, judged-none, judged-some}
 use Rattle.rows.specs.Row.{present_entries}
 use Rattle.tables.specs.Lens.{Side, Tables}
 use Rattle.tables.proofs.Orders.{by-test}
-use Rattle.reader.specs.Reader.{reader_check, reader_row_check, taken_side, taken_array, side_answer, reader_read, takes_back}
+use Rattle.reader.specs.Reader.{reader_check, reader_row_check, taken_side, taken_array, side_answer, reader_read}
 use Rattle.windows.specs.Windows.{window_tables, window_why, window_answer}
 use Rattle.windows.proofs.Ways.{asks-refused, asks-given, then-passed, why-fits, if-zero}
 use Rattle.windows_reader.specs.Parts.{array_of, array_from, reader_why, good_part, good_from, part_check, part_read}

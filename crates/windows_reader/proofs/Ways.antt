@@ -4,15 +4,14 @@ use mathlib.Core.Bool.{Bool, true, false}
 use mathlib.Core.List.{List, [], ◌∷◌}
 use Prim.Native.Nat.{ℕ, ◌+◌, ◌*◌, ◌-◌}
 use native.Mathlib.Omega.{arith}
-use lib.ListN.{length, take, drop}
+use lib.ListN.{length, take}
 use Rattle.units.specs.declared.why.Why.{Why}
 use Rattle.units.specs.declared.Refusal.{Refusal}
-use Rattle.units.specs.Answer.{Answer, accepted, refused, plain, when, or_else, Beside, beside, judged}
+use Rattle.units.specs.Answer.{accepted, refused, plain, when, Beside, beside, judged}
 use Rattle.units.specs.Bytes.{part}
 use Rattle.units.specs.Refusals.{why, refusal_of, refused_by}
-use Rattle.units.proofs.Chains.{number-of, found, past, last, none, Bare, bare-else, Named}
-use Rattle.units.proofs.Lists.{length_part, lent-part, part-part}
-use Rattle.partition.specs.declared.Partition.{Partition}
+use Rattle.units.proofs.Chains.{number-of, found, past, last, none, Bare, bare-else}
+use Rattle.units.proofs.Lists.{length_part, part-part}
 use Rattle.partition.specs.Format.{zero_partition}
 use Rattle.partition.specs.Array.{Found, reading_of, first_slot, present_from}
 use Rattle.partition.proofs.Laws.{next-none, next-some}
@@ -22,12 +21,12 @@ use Rattle.rows.specs.Plans.{Made, planned, no_plan, nowhere}
 use Rattle.rows.proofs.Laws.{made_none, planned-none}
 use Rattle.tables.specs.Lens.{Side, Front, Back, Tables, side_of, copy_in, copy_at, tables}
 use Rattle.tables.specs.Check.{bad_slot}
-use Rattle.reader.specs.Reader.{chosen_number, reader_check, takes_back, taken_side, taken_array, held_in, reader_slot_check, reader_next, reader_slot, reader_entries}
+use Rattle.reader.specs.Reader.{chosen_number, reader_check, takes_back, taken_array, held_in, reader_slot_check, reader_next, reader_slot, reader_entries}
 use Rattle.reader.proofs.Ways.{why-by, with-room, bare-reader, named-reader}
-use Rattle.windows.specs.Windows.{window_tables, window_check, window_why, window_answer, head_long, tail_long}
+use Rattle.windows.specs.Windows.{window_tables, window_check, window_answer, head_long, tail_long}
 use Rattle.windows.proofs.Whole.{Fits}
 use Rattle.windows.proofs.Ways.{bare-window, named-why, why-fits, then_found, then-passed, asks-refused, asks-given, if-zero, if-not}
-use Rattle.windows_reader.specs.Parts.{array_of, array_from, reader_why, good_part, good_from, ChosenIn}
+use Rattle.windows_reader.specs.Parts.{array_of, reader_why, good_part, ChosenIn}
 
 -- the array in a window is the table's
 pub array-side : (B : ℕ) (head tail : List ℕ) (s : Side) → array_of B s head tail ≡ (copy_at s (window_tables B head tail)).array

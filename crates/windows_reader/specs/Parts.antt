@@ -1,14 +1,14 @@
 -- The part of a window that the reader takes, and what a list of such a part is. From document 02, 10/13: the reader of the array chooses the good copy and hands back that part of the head or of the
 -- tail, or an empty part of the head with a refusal. Assumes nothing.
-use Rattle.std.specs.Prelude.{◌≡◌, Bool, List, [], ℕ, ◌+◌, ◌*◌, eqb, ltb, length}
+use Rattle.std.specs.Prelude.{◌≡◌, List, ℕ, ◌+◌, ◌*◌, ltb, length}
 use Rattle.units.specs.declared.why.Why.{Why}
-use Rattle.units.specs.Answer.{Answer, refuse, accepted, plain, pick, when, or_else, if_zero, judged}
+use Rattle.units.specs.Answer.{Answer, plain, when, or_else, if_zero, judged}
 use Rattle.units.specs.Bytes.{part}
 use Rattle.rows.specs.declared.Entry.{Entry}
 use Rattle.rows.specs.declared.inner.Plan.{Plan}
 use Rattle.rows.specs.Row.{present_entries}
 use Rattle.rows.specs.Plans.{Made, planned}
-use Rattle.tables.specs.Lens.{Side, Front, Back, side_of}
+use Rattle.tables.specs.Lens.{Side, Front, Back}
 use Rattle.reader.specs.declared.inner.Choice.{Choice}
 use Rattle.reader.specs.Reader.{reader_check, takes_back, taken_side, reader_entries}
 use Rattle.windows.specs.Windows.{window_tables, window_answer, window_why}

@@ -2,7 +2,7 @@
 use mathlib.Core.Path.{◌≡◌, refl, sym, ap, ◌∙◌, subst}
 use mathlib.Core.Bool.{Bool, true, false, not, ◌&&◌, ◌||◌}
 use mathlib.Core.List.{List}
-use Prim.Native.Nat.{ℕ, zero, suc, ◌+◌, ◌*◌, ◌-◌, ◌^◌, ◌≤◌, ◌<◌}
+use Prim.Native.Nat.{ℕ, ◌+◌, ◌*◌, ◌-◌, ◌^◌, ◌≤◌, ◌<◌}
 use native.Mathlib.Omega.{arith}
 use borrow.Author.Tests.{ne_eqb, ltb-true, ltb-false}
 use lib.Dec.{eqb, ltb, leb}
@@ -10,39 +10,37 @@ use lib.ListN.{length}
 use lib.Seq.{sets, length-sets}
 use Rattle.units.specs.declared.why.Why.{Why}
 use Rattle.units.specs.declared.CardVerdict.TheVariants as verdict
-use Rattle.units.specs.Answer.{Answer, accepted, refused, Outcome, gives, plain, pick, or_else, if_zero, Beside, beside, judged, settle}
+use Rattle.units.specs.Answer.{Answer, accepted, refused, Outcome, gives, plain, pick, or_else, if_zero, beside}
 use Rattle.units.specs.Bytes.{part}
-use Rattle.units.specs.Meanings.{card_means, verdict_of}
+use Rattle.units.specs.Meanings.{verdict_of}
 use Rattle.units.specs.Places.{good_size}
 use Rattle.units.specs.Refusals.{why_at, reason_of}
 use Rattle.units.proofs.Chains.{number-of, found, else-first, else-second, Bare, bare-else, Named, named-else, settle-accepted}
 use Rattle.units.proofs.Lists.{length_part, part-part}
 use Rattle.tables.specs.Places.{array_blocks, back_array}
-use Rattle.tables.specs.Lens.{Side, Front, Back, Tables, side_of, other, header_in, array_in, tables, tables_at}
+use Rattle.tables.specs.Lens.{Side, Front, Back, Tables, side_of, other, header_in, array_in, tables}
 use Rattle.tables.specs.Entries.{zeros}
 use Rattle.tables.specs.Headers.{head_block}
 use Rattle.tables.specs.Check.{room_check, bad_slot}
 use Rattle.tables.proofs.Room.{Room}
 use Rattle.tables.proofs.Good.{room-ok}
-use Rattle.tables.proofs.EntryLaws.{length-zeros}
 use Rattle.reader.specs.Reader.{array_byte_place, takes_back}
 use Rattle.staged.specs.declared.Update.{Update}
-use Rattle.staged.specs.declared.UpdateStep.{UpdateStep}
 use Rattle.staged.specs.declared.Repair.{Repair}
 use Rattle.staged.specs.declared.RepairStep.TheVariants as repair
 use Rattle.staged.specs.Stages.{fixed}
-use Rattle.staged.specs.Repairs.{mended, repair_from, repair_of}
-use Rattle.staged.specs.Stores.{copy_place, header_place, store_in, store_bytes, stage_store, header_store, zero_store, block_store, repair_store}
+use Rattle.staged.specs.Repairs.{mended, repair_of}
+use Rattle.staged.specs.Stores.{copy_place, store_in, store_bytes, stage_store, header_store, zero_store, block_store, repair_store}
 use Rattle.staged.specs.Numbers.{leads, next_check, leads_repair, next_repair_check, onward, onward_repair, next_at, next_repair_at}
 use Rattle.staged.specs.Meanings.{update_means, zero_update, repair_means}
 use Rattle.staged.proofs.Places.{header-from, array-from, store-fits, stage_is, zeros-fit, header-fits, repair-block, repair-header, other-side, block_inside}
-use Rattle.staged.proofs.Ways.{named-next, bare-next, named-next-repair, bare-next-repair, next-1, next-26, next-repair-1, next-repair-26, zeros-first}
+use Rattle.staged.proofs.Ways.{named-next, bare-next, named-next-repair, bare-next-repair, next-26, next-repair-26, zeros-first}
 use Rattle.staged.proofs.Leads.{Leads, next-leads, LeadsRepair, repair-leads, leads-store}
-use Rattle.windows.specs.Windows.{head_long, tail_long, head_in, tail_in, whole, window_tables, length_check, Windowed, in_windows, windowed_by, WindowEnds}
-use Rattle.windows.proofs.Whole.{Fits, long-by, back-ends, length_whole, head-whole, tail-whole, tables-whole, store-head, store_tail}
+use Rattle.windows.specs.Windows.{head_long, tail_long, whole, window_tables, length_check, Windowed, in_windows, windowed_by, WindowEnds}
+use Rattle.windows.proofs.Whole.{Fits, long-by, length_whole, head-whole, tail-whole, store-head, store_tail}
 use Rattle.windows.proofs.Ways.{in_order, bare-length, named-length, told-verdict, at-whole, if-zero, if-not}
 use Rattle.windows_reader.specs.Parts.{array_of}
-use Rattle.windows_staged.specs.Stages.{next_why, next_repair_why, next_windowed, next_repair_windowed, window_beside, head_with, tail_with, Stored, StageStored, ZerosStored, BlockStored, HeaderStored, RepairStored}
+use Rattle.windows_staged.specs.Stages.{next_why, next_repair_why, next_windowed, next_repair_windowed, window_beside, Stored, StageStored, ZerosStored, BlockStored, HeaderStored, RepairStored}
 
 -- ---- one store in a side's own bytes, in the whole image
 

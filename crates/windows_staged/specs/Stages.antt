@@ -3,7 +3,7 @@
 use Rattle.std.specs.Prelude.{◌≡◌, true, false, ◌||◌, List, ℕ, ◌+◌, ◌*◌, ◌-◌, eqb, ltb, length}
 use Rattle.std.proofs.lemmas.List.Edits.{sets}
 use Rattle.units.specs.declared.why.Why.{Why}
-use Rattle.units.specs.Answer.{Answer, Outcome, Beside, beside, or_else}
+use Rattle.units.specs.Answer.{Answer, Beside, beside, or_else}
 use Rattle.units.specs.Bytes.{part}
 use Rattle.partition.specs.declared.Partition.{Partition}
 use Rattle.tables.specs.Places.{array_blocks}

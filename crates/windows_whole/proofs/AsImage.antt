@@ -1,11 +1,11 @@
 -- 10/13: for every image of a whole number of blocks, below 2^64 bytes, and every call, the call on its head and its tail answers as the call on the image, and leaves the windows as the image's blocks are left.
 -- What lies between the windows is not in it, so it does not matter. Where there is no room for two tables both refuse by the room's number. No contract cites this file. Assumes nothing.
-use mathlib.Core.Path.{◌≡◌, refl, sym, ap, ap₂, ◌∙◌, subst}
+use mathlib.Core.Path.{◌≡◌, refl, sym, ap, ◌∙◌}
 use mathlib.Core.Logic.{◌⊎◌, inl, inr}
-use mathlib.Core.Bool.{Bool, true, false, not, ◌&&◌}
+use mathlib.Core.Bool.{Bool, true, false, not}
 use mathlib.Core.List.{List, [], ◌∷◌}
 use mathlib.Core.List as lists
-use Prim.Native.Nat.{ℕ, zero, suc, ◌+◌, ◌*◌, ◌-◌, ◌/◌, ◌^◌, ◌≤◌, ◌<◌}
+use Prim.Native.Nat.{ℕ, ◌+◌, ◌*◌, ◌-◌, ◌/◌, ◌^◌, ◌≤◌, ◌<◌}
 use native.Mathlib.Omega.{arith}
 use borrow.Author.Tests.{eqb-true, eqb-false, eq-eqb, lt-leb}
 use lib.Dec.{eqb, leb}
@@ -14,11 +14,11 @@ use lib.Seq.{sets}
 use Rattle.units.specs.declared.BytePlace.{BytePlace}
 use Rattle.units.specs.declared.Guid.{Guid}
 use Rattle.units.specs.declared.why.Why.{Why}
-use Rattle.units.specs.Answer.{Answer, accepted, refused, Outcome, gives, plain, fine, when, or_else, if_zero, judged, settle}
+use Rattle.units.specs.Answer.{Answer, refused, Outcome, gives, plain, when, or_else, judged, settle}
 use Rattle.units.specs.Bytes.{part, all_zero}
 use Rattle.units.specs.Guids.{guid_bytes}
 use Rattle.units.specs.Places.{good_size}
-use Rattle.units.proofs.Chains.{here, number-of, found as found_first, past, when-none, else-none, judged-none, judged-some, settle-refused}
+use Rattle.units.proofs.Chains.{here, number-of, found as found_first, past, when-none, else-none, judged-some, settle-refused}
 use Rattle.units.proofs.Lists.{length_part, get_d_part}
 use Rattle.partition.specs.Format.{entry_at}
 use Rattle.partition.specs.Array.{Found, entry_place, present_from}
@@ -39,8 +39,7 @@ use Rattle.listing.specs.LentRow.{entries_in, listing_read}
 use Rattle.ground.specs.Ground.{Run}
 use Rattle.ground.specs.Answers.{Rows, runs_of, ground_check, settle_rows, ground_outcome}
 use Rattle.card.specs.Calls.{mbr, laid_image, put_bytes, put_check, payload_check, payload_place, changed, lay_at, lay_outcome, put_at, clear_at, payload_at}
-use Rattle.slot_map.specs.Map.{flags_from, marked}
-use Rattle.history.specs.History.{taken}
+use Rattle.slot_map.specs.Map.{flags_from}
 use Rattle.reader.specs.Reader.{reader_check, reader_slot_check, reader_row_check, taken_side, taken_array, held_in, reader_read}
 use Rattle.staged.specs.declared.Update.{Update}
 use Rattle.staged.specs.declared.Repair.{Repair}
@@ -51,7 +50,7 @@ use Rattle.staged.specs.Numbers.{onward, onward_repair, start_put_at, start_clea
 use Rattle.staged.proofs.Leads.{next-leads, repair-leads}
 use Rattle.writers.specs.Agree.{Watched, AgreeOn, SameOn}
 use Rattle.writers.specs.Calls.{Call, put, clear, payload, checking, counting, following, reading, nth, listing, into_row, into_bytes, free_ground, mapping, map_put, map_clear, start_put, start_clear, stage, reader_side, reader_counting, reader_following, reader_reading, reader_into_row, reader_into_bytes, start_repair, repair, placing}
-use Rattle.writers.specs.Calls.{Reply, verdict, number, slots, found, entries, row, bytes, ground, map, carried, update, side, mended, place, call, run, same}
+use Rattle.writers.specs.Calls.{Reply, verdict, number, slots, found, entries, row, bytes, ground, map, update, side, mended, place, call, run, same}
 use Rattle.writers.proofs.Stores.{agree-sets, agree-part, agree-with, agree-stage, agree-repair}
 use Rattle.writers.proofs.Writers.{writers}
 use Rattle.writers.proofs.Blind.{NoRoom, Late, late-check, late_slot, late-put, late-payload, late-row, late-ground, late-reader, late-reader-slot, late-reader-row, judged-blind, ground-blind, same-settle, reads, stores, at-lengths}

@@ -1,7 +1,6 @@
 -- Where there is no room for two tables, every call refuses by the room's number, whatever the tables; where there is, images that agree have the same tables. So the answers are the same.
 -- No contract cites this file. Assumes nothing.
 use mathlib.Core.Path.{◌≡◌, refl, sym, ap, ◌∙◌, subst}
-use mathlib.Core.Bool.{Bool, true, false}
 use mathlib.Core.List.{List}
 use Prim.Native.Nat.{ℕ, zero, suc}
 use native.Mathlib.Omega.{arith}

@@ -14,7 +14,7 @@ use Rattle.units.specs.declared.Guid.{Guid}
 use Rattle.units.specs.Answer.{pick}
 use Rattle.units.specs.Bytes.{part}
 use Rattle.units.proofs.Lists.{length_part, get_d_part, get_d-out}
-use Rattle.tables.specs.Places.{blocks, array_blocks, first_usable_of, last_usable_of, back_array, back_header}
+use Rattle.tables.specs.Places.{blocks, array_blocks, back_array, back_header}
 use Rattle.tables.specs.Lens.{Side, Front, Back, Tables, other, copy_bytes, tables_at, with_tables_at}
 use Rattle.tables.specs.Entries.{zeros}
 use Rattle.tables.specs.Headers.{head_block}

@@ -9,18 +9,17 @@ use Prim.Native.Nat.{ℕ, zero, suc, ◌+◌, ◌-◌, ◌/◌, ◌≤◌, ◌<�
 use native.Mathlib.Omega.{arith}
 use lib.ListN.{length, take, drop}
 use lib.Seq.{sets}
-use Rattle.units.specs.Answer.{Answer, Outcome, gives, judged, Ends}
+use Rattle.units.specs.Answer.{Answer, Outcome, judged, Ends}
 use Rattle.units.specs.Bytes.{all_zero}
-use Rattle.partition.specs.declared.Partition.{Partition}
 use Rattle.partition.specs.Format.{entry_at}
-use Rattle.partition.specs.Array.{Found, entry_place, present_from}
+use Rattle.partition.specs.Array.{entry_place, present_from}
 use Rattle.rows.specs.declared.Entry.{Entry}
 use Rattle.rows.specs.Row.{row_outcome, present_entries}
 use Rattle.rows.specs.RowBytes.{bytes_outcome}
 use Rattle.tables.specs.Places.{back_array}
 use Rattle.tables.specs.Lens.{Tables, tables_at, with_tables_at}
 use Rattle.tables.specs.Entries.{zeros, entry}
-use Rattle.tables.specs.Check.{room_check, check, slot_check}
+use Rattle.tables.specs.Check.{check, slot_check}
 use Rattle.tables.proofs.Room.{Room}
 use Rattle.tables.proofs.Good.{room-ok}
 use Rattle.listing.specs.Listing.{present_slots, listed, listing_check}

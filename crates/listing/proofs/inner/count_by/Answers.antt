@@ -1,0 +1,11 @@
+-- `listing::inner::count_by` meets its contract. Assumes nothing.
+use mathlib.Core.Path.{ap}
+use Rattle.units.specs.Meanings.{card_means}
+use Rattle.rows.proofs.Laws.{counts-present, counts-refused}
+use Rattle.listing.proofs.inner.count_by.Goals as goal
+
+pub returns-in-Accepted : goal.returns-in-Accepted
+returns-in-Accepted c = counts-present _ (ap card_means c.in-Accepted.is)
+
+pub returns-in-Refused : goal.returns-in-Refused
+returns-in-Refused c = counts-refused _ (ap card_means c.in-Refused.is)
