@@ -86,7 +86,7 @@ if [ "$line" = all ]; then
     exit
 fi
 
-run edits "each changed function of an edit"
+run edits "each changed function of an edit" python3
 run programs "the programs that are run below"
 run versions "one version in all places"
 run tour "the tour's lines and the picture of the crates" python3

@@ -41,7 +41,7 @@ def crates():
     uses = {}
     for line in pathlib.Path("crates.txt").read_text().splitlines():
         if ":" in line and not line.startswith("#"):
-            name, below = line.split(":")
+            name, below = re.sub(" .*:", ":", line).split(":")
             uses[name] = set(below.split())
     mine = {name: {other for other in below if other in uses} for name, below in uses.items()}
     above = {name: set().union(*(mine[other] for other in below)) if below else set() for name, below in mine.items()}

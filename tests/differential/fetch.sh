@@ -33,6 +33,8 @@ if [ ! -f "$to/vendor/.complete" ]; then
     for d in "$to"/deb/*.deb; do
         dpkg -x "$d" "$to/deb/root"
     done
-    cp -r "$to"/deb/root/usr/share/cargo/registry/* "$to/vendor/"
+    # rt ci refuses a symbolic link anywhere in the repository.
+    cp -rL "$to"/deb/root/usr/share/cargo/registry/* "$to/vendor/"
+    rm -rf "$to/deb"
     touch "$to/vendor/.complete"
 fi

@@ -158,7 +158,8 @@ def outputs(program, image, output):
         ("a full disk", want, lambda: failing.full(program, image)),
         ("closed output", want, lambda: failing.closed_output(program, image)),
         ("a closed pipe, SIGPIPE ignored", want, lambda: failing.broken_pipe(program, image, True)),
-        ("a closed pipe", ("", "", -13), lambda: failing.broken_pipe(program, image, False)),
+        # Rattle's startup code ignores the signal of a closed pipe, whatever it was before.
+        ("a closed pipe", want, lambda: failing.broken_pipe(program, image, False)),
         ("a full pipe that does not block", want, lambda: failing.full_pipe(program, image)),
         ("a disk that is full after 30 bytes", (output[:30], said, 0), lambda: failing.full_after(program, image, 30)),
     ]

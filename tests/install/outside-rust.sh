@@ -20,11 +20,11 @@ CARD_LIB_DIR=$root/one/two/lib CARGO_TARGET_DIR=$root/target cargo test --offlin
 cp "$root/log" "$root/tests"
 
 skipped=$(sed -n 's/^.*skipped: a comparison with \([^,]*\), .*/\1/p' "$root/log" | LC_ALL=C sort | tr '\n' ' ')
-want='crates/lister/stdin include/card.h include/card.h '
+want='crates/lister/stdin include/card.h include/card.h include/card.h '
 [ "$skipped" = "$want" ] || fail "skipped: $skipped, where $want was to be skipped"
 
 # With another machine's name in its condition the crate must not compile here.
 sed 's/target_arch = "x86_64"/target_arch = "aarch64"/' src/lib.rs >src/elsewhere.rs
 CARGO_MANIFEST_DIR=. rustc --edition 2021 --crate-type lib --emit=metadata -o "$root/elsewhere" src/elsewhere.rs 2>"$root/log" && fail "the crate compiles for another machine"
 grep -q '^error: libcard is for x86-64' "$root/log" || fail "the crate does not say that it is for x86-64"
-awk '/^test result: ok/ { n += $4 } END { print "rust-outside: " n + 0 " tests ok outside the repository, 3 comparisons with its files skipped"; exit n == 0 }' "$root/tests"
+awk '/^test result: ok/ { n += $4 } END { print "rust-outside: " n + 0 " tests ok outside the repository, 4 comparisons with its files skipped"; exit n == 0 }' "$root/tests"

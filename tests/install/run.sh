@@ -67,7 +67,7 @@ if command -v readelf >/dev/null 2>&1; then
     readelf -d "$there/lib/libcard.so.0" | grep -q NOW || fail "libcard.so.0 does not bind its symbols when it is loaded (-z now)"
     readelf -lW "$there/lib/libcard.so.0" | grep -q GNU_RELRO || fail "libcard.so.0 has no part that becomes read-only (-z relro)"
 fi
-[ "$(readlink target/lib/libcard.so.0)" = libcard.so ] || fail "target/lib/libcard.so.0 does not stand beside libcard.so"
+cmp -s target/lib/libcard.so target/lib/libcard.so.0 || fail "target/lib/libcard.so.0 does not stand beside libcard.so"
 
 "$there/bin/card-lister" <crates/lister/stdin | cmp - crates/lister/stdout || fail "the installed lister prints another text"
 if [ -e "$there/bin/card" ]; then

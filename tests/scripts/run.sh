@@ -36,7 +36,10 @@ last_is() { [ "$(printf '%s\n' "$said" | tail -n 1)" = "$1" ]; }
 mkdir -p "$copy/crates" "$copy/tests"
 cp -R Makefile README.md crates.txt .ci scripts "$copy/"
 cp -R tests/example "$copy/tests/"
-cp -R crates/lister crates/free_ground crates/uefi_lister crates/sample crates/cases "$copy/crates/"
+for name in $(scripts/below); do mkdir "$copy/crates/$name"; done
+for name in lister free_ground uefi_lister sample cases; do
+    (cd "crates/$name" && cp -R src specs proofs stdin stdout "$copy/crates/$name/" 2>/dev/null)
+done
 
 # Two folders of commands: in the first there is no rt, no compiler and no Python; the second has the stand-ins.
 plain="$room/plain"
@@ -47,32 +50,62 @@ for name in sh make awk sed grep cat cp ln rm rmdir mkdir mktemp dirname date fi
 done
 cat >"$stand_in/rt" <<'END'
 #!/bin/sh
-# What it is to do stands in files beside it: ci (what rt ci prints), ci.status, fmt.status, check.status, check.awaits (the words of the script that it waits for, a minute at most).
+# What it is to do stands in files beside it: ci (what rt ci prints), ci.status, check.status, check.awaits (the words of the script that it waits for, a minute at most), run.status (how the program ends).
 here=$(dirname "$0")
 echo "$*" >>"$here/calls"
+check() {
+    echo "rt: chose --jobs 2 for header"
+    awaited=$(cat "$here/check.awaits")
+    seconds=0
+    until [ -z "$awaited" ] || grep -q -e "$awaited" "$here/../said" || [ "$seconds" -eq 60 ]; do
+        sleep 1
+        seconds=$((seconds + 1))
+    done
+    echo "fn header::read: a line that only a failed run shows"
+    [ "$(cat "$here/check.status")" -eq 0 ] || { echo "logic=not-proved"; exit 1; }
+    echo "logic=proved functions=1"
+    mkdir -p out
+}
+name=$(basename "$PWD")
 case $1 in
-    fmt) exit "$(cat "$here/fmt.status")" ;;
+    version) echo "a kit" ;;
     ci)
-        rm -rf target
+        for main in crates/*/src/main.rt; do
+            name=${main#crates/}
+            name=${name%%/*}
+            mkdir -p "crates/$name/out"
+            echo "$name by rt ci" >"crates/$name/out/$name"
+        done
+        for name in $(scripts/below -l); do mkdir -p "crates/$name/out/rlib/$name.rlib/new"; done
         cat "$here/ci"
         exit "$(cat "$here/ci.status")"
         ;;
-    check)
-        mkdir -p target/log
-        : >target/log/header.out
-        echo "rt: units proved (unchanged since it was last proved)"
-        echo "rt: crc32 proved (unchanged since it was last proved)"
-        awaited=$(cat "$here/check.awaits")
-        seconds=0
-        until [ -z "$awaited" ] || grep -q -e "$awaited" "$here/../said" || [ "$seconds" -eq 60 ]; do
-            sleep 1
-            seconds=$((seconds + 1))
-        done
-        echo "fn header::read: a line that only a failed run shows"
-        echo "rt: header proved (7 s)"
-        exit "$(cat "$here/check.status")"
+    check) check ;;
+    lib)
+        check
+        echo "$name by rt" >"out/lib$name.a"
+        ;;
+    run)
+        check >&2
+        echo "$name by rt" >"out/$name"
+        echo "rt: running out/$name; to give it other input, run that file yourself" >&2
+        echo "what the program writes"
+        exit "$(cat "$here/run.status")"
         ;;
 esac
+END
+# rt's place in the kit is that of the folder of stand-ins, so the kit's own command is beside it.
+mkdir "$room/bin"
+cat >"$room/bin/rattle" <<'END'
+#!/bin/sh
+# rattle build .. -o FILE
+here=$(dirname "$0")/../stand-in
+echo "rattle $1 $(basename "$PWD")" >>"$here/calls"
+[ "$(cat "$here/check.status")" -eq 0 ] || { echo "logic=not-proved"; exit 1; }
+echo "logic=proved functions=1"
+mkdir -p out
+while [ "$1" != -o ]; do shift; done
+echo "over rt ci" >"$2"
 END
 cat >"$stand_in/apt-get" <<'END'
 #!/bin/sh
@@ -82,18 +115,18 @@ exit "$(cat "$here/apt.status")"
 END
 printf '#!/bin/sh\ncat "$(dirname "$0")/user"\n' >"$stand_in/id"
 printf '#!/bin/sh\necho "outside: a test: ran (1 s)"\nexit "$(cat outside.status)"\n' >"$copy/tests/outside.sh"
-chmod +x "$stand_in/rt" "$stand_in/apt-get" "$stand_in/id" "$copy/tests/outside.sh"
+chmod +x "$stand_in/rt" "$room/bin/rattle" "$stand_in/apt-get" "$stand_in/id" "$copy/tests/outside.sh"
 
 # sets NAME TEXT: what a stand-in is to do.
 sets() { printf '%s\n' "$2" >"$stand_in/$1"; }
-sets fmt.status 0
 sets ci.status 0
 sets check.status 0
+sets run.status 0
 sets check.awaits 'header is being proved'
 sets apt.status 0
 sets user 0
-sets ci "rt: units proved (3 s)
-rt: ok, 4 crates proved, 2 must-fail edits refused
+sets ci "rt: units proved
+rt: ok; handles allowed: none; must-fail edits: 2 refused; every proof and must-fail edit was done in this run
 6 passed, 0 failed"
 echo 0 >"$copy/outside.status"
 
@@ -131,16 +164,32 @@ said_by "$copy/scripts/prove" header
 ok "scripts/prove succeeds where rt does" [ "$status" -eq 0 ]
 ok "it says at once what is proved, and how many crates" [ "$(printf '%s\n' "$said" | head -n 1)" = "prove: header, with all that is below: 3 crates" ]
 ok "it says which crate is being proved" has '^prove: header is being proved$'
-ok "it says how long a crate took" has '^prove: header proved, 7 s (3 of 3)$'
+ok "it says how long a crate took" has '^prove: header proved, [0-9]* s$'
 ok "it counts" has '^prove: 3 crates, 1 of them proved now, in [0-9]* s$'
 ok "it shows no line of rt's" not has 'a line that only a failed run shows'
 sets check.awaits ''
+: >"$stand_in/calls"
+said_by "$copy/scripts/prove" header
+ok "what has not changed is not proved again" has '^prove: 3 crates, unchanged since they were proved$'
+ok "rt is not asked to" not grep -q check "$stand_in/calls"
+mkdir "$copy/crates/units/src"
+echo "// changed" >"$copy/crates/units/src/lib.rt"
 said_by sh -c '"$0" header 2>/dev/null' "$copy/scripts/prove"
 ok "its standard output is empty" [ -z "$said" ]
+ok "what has changed is proved again" grep -qx check "$stand_in/calls"
+sets run.status 3
+said_by "$copy/scripts/prove" lister text_c
+ok "a program that ends with an error is proved, too" [ "$status" -eq 0 ]
+ok "a program is left in target/bin" grep -qx 'lister by rt' "$copy/target/bin/lister"
+ok "a library for C is left in target/staticlib" grep -qx 'text_c by rt' "$copy/target/staticlib/libtext_c.a"
+sets run.status 0
+echo "// changed again" >"$copy/crates/units/src/lib.rt"
 sets check.status 1
-said_by "$copy/scripts/prove" header
-ok "scripts/prove fails where rt does" [ "$status" -ne 0 ]
-ok "and shows what rt said" has 'a line that only a failed run shows'
+for name in header lister text_c; do
+    said_by "$copy/scripts/prove" "$name"
+    ok "scripts/prove fails where rt does, for $name" [ "$status" -ne 0 ]
+    ok "and shows what rt said of $name" has 'a line that only a failed run shows'
+done
 sets check.status 0
 
 # --- scripts/gate
@@ -154,10 +203,23 @@ gate
 ok "a gate whose parts all pass passes" [ "$status" -eq 0 ]
 ok "its last line is rt ci's" last_is "6 passed, 0 failed"
 ok "which it prints once" [ "$(passes)" = 1 ]
+ok "rt ci is called once, with no more words" [ "$(grep '^ci' "$stand_in/calls")" = ci ]
+ok "the programs in target/bin are rt ci's" grep -qx 'lister by rt ci' "$copy/target/bin/lister"
+ok "the libraries for C are made over what it left" grep -qx 'over rt ci' "$copy/target/staticlib/libgpt_c.a"
+ok "no crate is proved otherwise" not grep -q -e '^check' -e '^run' -e '^lib' "$stand_in/calls"
+said_by "$copy/scripts/prove" lister gpt_c
+ok "nor later, while nothing has changed" has '^prove: [0-9]* crates, unchanged since they were proved$'
 ok "it keeps its output, with the time of each part" grep -q '^gate: rt ci ([0-9]* s)$' "$copy/target/gate.log"
+ok "and when each line of rt's came" grep -q '^rt: units proved (at [0-9]* s)$' "$copy/target/gate.log"
 ok "and the last line" [ "$(tail -n 1 "$copy/target/gate.log")" = "6 passed, 0 failed" ]
+ok "what rt ci said is kept as it was" [ "$(cat "$copy/target/ci.log")" = "$(cat "$stand_in/ci")" ]
 said_by make -s -C "$copy" gate-times
-ok "make gate-times reads it" has '^crates proved: 1, 3 s$'
+ok "make gate-times reads it" has '^ *[0-9]* s  units proved$'
+: >"$stand_in/calls"
+gate
+ok "where rt ci has put back older libraries, rt looks after them" grep -qx lib "$stand_in/calls"
+ok "and makes the libraries for C" grep -qx 'gpt_c by rt' "$copy/target/staticlib/libgpt_c.a"
+rm -r "$copy"/crates/*/out
 
 # refuses WHAT: the gate fails, and prints no line that says that all passed.
 refuses() {
@@ -168,6 +230,10 @@ refuses() {
 echo 1 >"$copy/outside.status"
 refuses "a test outside Rattle that fails"
 echo 0 >"$copy/outside.status"
+sets check.status 1
+refuses "a library for C that is not proved"
+ok "no test outside is then begun" not has '^outside:'
+sets check.status 0
 sets ci.status 1
 refuses "rt ci that ends with 1"
 ok "nothing is run behind it" not has '^outside:'
@@ -178,14 +244,15 @@ sets ci.status 0
 refuses "rt ci that counts a failure and ends with 0"
 sets ci "0 passed, 0 failed"
 refuses "rt ci that tries nothing"
-sets ci "6 passed, 0 failed
+sets ci "6 passed, 0 failed"
+refuses "rt ci that does not say ok"
+sets ci "rt: ok; handles allowed: none; must-fail edits: 2 refused; every proof and must-fail edit was done in this run
+6 passed, 0 failed
 rt: killed"
 refuses "rt ci that stops behind its count"
-sets ci "6 passed, 0 failed"
-sets fmt.status 1
-refuses "a file that is not laid out"
-ok "rt ci is then not begun" not grep -qx ci "$stand_in/calls"
-sets fmt.status 0
+sets ci "rt: ok; handles allowed: none; must-fail edits: 2 refused, 1 of them only by a limit, 3 bad; every proof and must-fail edit was done in this run
+6 passed, 0 failed"
+refuses "an edit that rt ci could not try"
 
 # --- scripts/deps
 : >"$stand_in/calls"
