@@ -1,4 +1,4 @@
-//! Writes the tape, crates/replay/stdin (with --check compares it with what would be written, with --slips tells which slips it does not catch): answers of the Rust original, in the format that README.md describes. Inputs of a listed class are left out. Each answer is
+//! Writes tape.bin and its copy, crates/replay/stdin (with --check compares both with what would be written, with --slips tells which slips it does not catch): answers of the Rust original, in the format that README.md describes. Inputs of a listed class are left out. Each answer is
 //! also compared with the port's; a difference ends the program.
 
 use differential::case::{Answer, Build, Call, Case, Entry, Head};
@@ -589,18 +589,23 @@ fn main() {
     buffers_and_records(&mut t, r);
     block_zero(&mut t, r);
     t.bytes.push(0x00);
-    let path = concat!(env!("CARGO_MANIFEST_DIR"), "/../../crates/replay/stdin");
+    let paths = [
+        concat!(env!("CARGO_MANIFEST_DIR"), "/tape.bin"),
+        concat!(env!("CARGO_MANIFEST_DIR"), "/../../crates/replay/stdin"),
+    ];
     if std::env::args().any(|a| a == "--slips") {
         return tell_slips(&t.cases);
     }
     if std::env::args().any(|a| a == "--check") {
-        let same = std::fs::read(path).is_ok_and(|b| b == t.bytes);
-        println!("tape: {} steps, {}", t.steps, if same { "the original's answers" } else { "NOT the original's answers" });
+        let same = paths.iter().all(|path| std::fs::read(path).is_ok_and(|b| b == t.bytes));
+        println!("tape.bin: {} steps, {}", t.steps, if same { "the original's answers" } else { "NOT the original's answers" });
         std::process::exit(!same as i32);
     }
-    std::fs::write(path, &t.bytes).expect("the tape can be written");
+    for path in paths {
+        std::fs::write(path, &t.bytes).expect("the tape can be written");
+    }
     println!(
-        "tape: {} steps, {} bytes, CRC-32 {:08x}; {} inputs left out",
+        "tape.bin: {} steps, {} bytes, CRC-32 {:08x}; {} inputs left out",
         t.steps,
         t.bytes.len(),
         crc32fast::hash(&t.bytes),
