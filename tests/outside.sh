@@ -18,7 +18,7 @@ line_of() {
     esac
 }
 
-# Whether this machine has each of these commands. The word x86-64 stands for the processor that programs and the library are compiled for; rt itself also runs on Arm.
+# Whether this machine has each of these commands. The word x86-64 stands for the processor that programs and the library are compiled for.
 has() {
     for word in "$@"; do
         missing=$word
