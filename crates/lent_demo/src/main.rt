@@ -3,6 +3,7 @@
 #![tactic(auto)]
 
 mod builders;
+mod laws; // laws.rt: the laws over what is lent, each at one call
 mod lent; // lent.rt: a caller for each setter
 mod say;
 
