@@ -3,8 +3,9 @@
 
 - Each was refused for what a contract says: rt names those that it could not try, and those that it refused only because a proof file names what the edit took away. This reads what
   rt ci said, target/ci.log.
-- Where an edit changes several functions, each of them is refused by itself, and not for the sake of another one that it calls. rt does not say so, so each such edit is tried again here on its functions alone, over
-  the libraries that rt ci or rt has left in crates/*/out.
+- Each function that an edit changes is refused by itself, and not for the sake of another one that it calls, nor for names alone: an edit that changes a test's words
+  also renames the goals behind it, and then its proof falls whatever the edit means. rt does not say so, so each edit of functions is tried again here on
+  these alone, over the libraries that rt ci or rt has left in crates/*/out.
 
 edits.py             what the gate runs behind rt ci; it is skipped where there is no target/ci.log
 edits.py CRATE..     the second of these alone, on the edits of these crates, which it has rt check first
@@ -77,24 +78,27 @@ def apply(edit, folder):
 
 
 def refused(name, function, place, said):
-    """Whether what the check said refuses this function by itself, and for more than names in its proof."""
+    """Whether what the check said refuses this function by itself, and not for its shape: a proof that names what is no longer there says nothing of what the code does."""
     file, first, last = place
     line = next((it for it in said if it.startswith(f"fn {name}::{function}: ")), "")
     if not line or line.startswith(f"fn {name}::{function}: proved"):
         return False
-    own, shape = [], False
+    own = False
     for it in said:
-        of = re.match(r"(?:note: )?(?:\./)?(\S+?):(\d+):\d+:", it)
-        if of and of[1] == file and first <= int(of[2]) < last:
-            own.append(it)
-        elif of and re.match(rf"proofs/\+?{function.replace('::', '/')}/", of[1]):
-            shape = shape or NAMES.search(it)
-            own += [it] * (not NAMES.search(it))
-    return bool(own) or not shape and "it calls `" not in line and "borrow checker does not cover" not in line
+        of = re.match(r"(note: )?(?:\./)?(\S+?):(\d+):\d+: (error\b)?", it)
+        if not of or not (of[1] or of[4]):
+            continue
+        if of[2] == file and first <= int(of[3]) < last:
+            own = True
+        elif of[4] and re.match(rf"proofs/\+?{function.replace('::', '/')}/", of[2]):
+            if NAMES.search(it):
+                return False
+            own = True
+    return own
 
 
 def tried(edit):
-    """What is wrong with an edit that changes several functions, and how many it changes."""
+    """What is wrong with an edit of functions, and how many it changes."""
     name = edit.parts[1]
     with tempfile.TemporaryDirectory() as room:
         folder = pathlib.Path(room) / name
@@ -103,8 +107,8 @@ def tried(edit):
             functions = apply(edit, folder)
         except ValueError as error:
             return [f"edits: {edit}: {error}"], 0
-        if len(functions) < 2:
-            return [], len(functions)
+        if not functions:
+            return [], 0
         flags = [word for function in functions for word in ("--only", function)]
         ran = subprocess.run(["scripts/rattle", "check", folder, "--jobs", "1", *flags], stdout=subprocess.PIPE, stderr=subprocess.STDOUT, stdin=subprocess.DEVNULL, text=True, errors="replace")
         said = ran.stdout.split("\n")

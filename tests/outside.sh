@@ -13,7 +13,7 @@ logs=target/outside
 line_of() {
     case $1 in
         programs | lib | card) echo first ;;
-        lister-test | demo | sums | install-test | package-test | documents) echo rt ;;
+        edits | lister-test | demo | sums | install-test | package-test | documents) echo rt ;;
         *) echo other ;;
     esac
 }

@@ -197,7 +197,7 @@ def closed_output(program, image):
 
 
 def broken_pipe(program, image, ignoring):
-    """A pipe that nobody reads: EPIPE, if SIGPIPE is ignored, and else the signal ends the program."""
+    """A pipe that nobody reads: EPIPE, whether SIGPIPE was ignored when the program began or not, since Rattle's startup code ignores it."""
     reads, writes = os.pipe()
     os.close(reads)
     try:
