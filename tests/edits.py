@@ -83,14 +83,15 @@ def refused(name, function, place, said):
     line = next((it for it in said if it.startswith(f"fn {name}::{function}: ")), "")
     if not line or line.startswith(f"fn {name}::{function}: proved"):
         return False
-    own = False
+    # An open goal of a function that has no proof of its own is told in its line alone.
+    own = "` did not prove `" in line
     for it in said:
         of = re.match(r"(note: )?(?:\./)?(\S+?):(\d+):\d+: (error\b)?", it)
         if not of or not (of[1] or of[4]):
             continue
         if of[2] == file and first <= int(of[3]) < last:
             own = True
-        elif of[4] and re.match(rf"proofs/\+?{function.replace('::', '/')}/", of[2]):
+        elif of[4] and of[2].replace("/+", "/").startswith(f"proofs/{function.replace('::', '/')}/"):
             if NAMES.search(it):
                 return False
             own = True
