@@ -1,11 +1,11 @@
 #!/usr/bin/env python3
 """Asks more of the edits that must fail than rt does, which asks that the crate is refused.
 
-- Each was refused for what a contract says: rt names those that it could not try, and those that it refused only because a proof file names what the edit took away. This reads what
-  rt ci said, target/ci.log.
-- Each function that an edit changes is refused by itself, and not for the sake of another one that it calls, nor for names alone: an edit that changes a test's words
-  also renames the goals behind it, and then its proof falls whatever the edit means. rt does not say so, so each edit of functions is tried again here on
-  these alone, over the libraries that rt ci or rt has left in crates/*/out.
+- Each was refused for what a contract says: rt names those that it could not try, and those that it refused only because a proof file names what the edit
+  took away. This reads what rt ci said, target/ci.log.
+- Each function that an edit changes is refused by itself, and not for the sake of another one that it calls, nor for names: an edit that changes a test's
+  words also renames the goals behind it, and then its proof falls whatever the edit means. rt does not say so, so each edit of functions is tried again here
+  on these alone, over the libraries that rt ci or rt has left in crates/*/out.
 
 edits.py             what the gate runs behind rt ci; it is skipped where there is no target/ci.log
 edits.py CRATE..     the second of these alone, on the edits of these crates, which it has rt check first
@@ -78,23 +78,27 @@ def apply(edit, folder):
 
 
 def refused(name, function, place, said):
-    """Whether what the check said refuses this function by itself, and not for its shape: a proof that names what is no longer there says nothing of what the code does."""
+    """Whether what the check said refuses this function by itself, and not for its shape.
+
+    A proof that names what is no longer there, or a form that no proof covers, says nothing of what the code does.
+    """
     file, first, last = place
     line = next((it for it in said if it.startswith(f"fn {name}::{function}: ")), "")
-    if not line or line.startswith(f"fn {name}::{function}: proved"):
+    if not line or line.startswith(f"fn {name}::{function}: proved") or "borrow checker does not cover" in line:
         return False
     # An open goal of a function that has no proof of its own is told in its line alone.
     own = "` did not prove `" in line
+    proof = False
     for it in said:
         of = re.match(r"(note: )?(?:\./)?(\S+?):(\d+):\d+: (error\b)?", it)
-        if not of or not (of[1] or of[4]):
-            continue
-        if of[2] == file and first <= int(of[3]) < last:
-            own = True
-        elif of[4] and of[2].replace("/+", "/").startswith(f"proofs/{function.replace('::', '/')}/"):
-            if NAMES.search(it):
-                return False
-            own = True
+        if of:
+            proof = bool(of[4]) and of[2].replace("/+", "/").startswith(f"proofs/{function.replace('::', '/')}/")
+            own = own or proof or bool(of[1] or of[4]) and of[2] == file and first <= int(of[3]) < last
+        elif not it.startswith("  "):
+            proof = False
+        # (the words of an error go on in the lines that are set in)
+        if proof and NAMES.search(it):
+            return False
     return own
 
 
