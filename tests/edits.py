@@ -45,9 +45,11 @@ def function_at(file, text, at):
     modules = [] if file in ("src/lib.rt", "src/main.rt") else re.sub(r"^src/|(/mod)?\.rt$", "", file).split("/")
     lines, within, found = text.split("\n"), [], None
     for number, line in enumerate(lines):
-        impl = re.match(r"(?:unsafe )?impl(?:<[^{]*?>)? (?:[\w:<>, ]+ for )?([\w:]+)", line)
+        impl = re.match(r"(?:unsafe )?impl(?:<[^{]*?>)? (?:([\w:<>, ()]+) for )?([\w:]+)", line)
         if impl:
-            within = [impl[1].split("::")[-1]]
+            # (rattle names an impl of a trait by the type and then the trait's words)
+            words = [word.split("::")[-1] for word in re.findall(r"[\w:]+", (impl[1] or "").replace("()", "Unit"))]
+            within = ["".join(word[0].upper() + word[1:] for word in [impl[2].split("::")[-1], *words])]
         elif line.startswith("}"):
             within = []
         name = re.match(r" *(?:pub(?:\([\w ]+\))? )?(?:const )?(?:unsafe )?(?:extern \"C\" )?fn (\w+)", line)

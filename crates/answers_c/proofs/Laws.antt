@@ -1,30 +1,14 @@
--- How an answer crosses, one law for each way that the code makes one. No contract cites this file. Assumes nothing.
-use mathlib.Core.Path.{◌≡◌, refl, sym, ap, ◌∙◌}
+-- How an answer crosses. No contract cites this file. Assumes nothing.
+use mathlib.Core.Path.{◌≡◌, refl, ap, ◌∙◌}
 use mathlib.Core.List.{List}
 use Prim.Native.Nat.{ℕ, ◌/◌}
 use lib.ListN.{length}
-use Rattle.units.specs.declared.why.Why.{Why}
-use Rattle.units.specs.Answer.{Answer, accepted, refused, beside, Outcome, Ends}
+use Rattle.units.specs.Answer.{Answer, accepted, refused, Outcome, Ends}
 use Rattle.rows.specs.declared.Entry.{Entry}
 use Rattle.rows.specs.declared.inner.Plan.{Plan}
 use Rattle.rows.specs.Plans.{planned, roomed, plainly}
 use Rattle.rows.specs.RowBytes.{bytes_outcome}
-use Rattle.answers_c.specs.Crossing.{outcome_to_c, crossed, aside, count_to_c}
-
-module _ {A S : Type 0} (make : ℕ → A → S) (z : A) where
-  pub crossed-fine : (a : Answer A) {x : A} → a ≡ accepted x → make 0 x ≡ crossed make z a
-  unfolding crossed
-  crossed-fine a e = sym (ap (crossed make z) e)
-
-  pub crossed-no : (a : Answer A) {w : Why} {k : ℕ} → a ≡ refused w → k ≡ w.number → make k z ≡ crossed make z a
-  unfolding crossed
-  crossed-no a e q = ap (λ (i : ℕ). make i z) q ∙ sym (ap (crossed make z) e)
-
-  -- where the value beside a refusal is the one that crosses, both are told in the same way
-  pub aside-crossed : (a : Answer A) → aside make (beside z a) ≡ crossed make z a
-  unfolding aside beside crossed
-  aside-crossed (accepted x) = refl
-  aside-crossed (refused w) = refl
+use Rattle.answers_c.specs.Crossing.{outcome_to_c, crossed, count_to_c}
 
 -- a call that ends in an outcome ends in the outcome so told
 pub told-ends : {A C : Type 0} (f : A → C) (o : Outcome A) {a : A} {r : C} {i : List ℕ} → Ends o a i → r ≡ f a → Ends (outcome_to_c f o) r i

@@ -1,6 +1,7 @@
 -- How an answer crosses to C: document 01's number first, 0 for accepted, then the values; beside a refusal each of them is zero. What the ported calls and the card calls have in common. Assumes nothing.
 use Rattle.std.specs.Prelude.{false, List, [], ℕ, get_or}
-use Rattle.units.specs.Answer.{Answer, accepted, refused, number_of, Beside, Outcome, gives}
+use Rattle.units.specs.declared.Slot.{Slot}
+use Rattle.units.specs.Answer.{Answer, accepted, refused, Outcome, gives}
 use Rattle.partition.specs.Array.{Found}
 use Rattle.partition.specs.Format.{zero_partition}
 use Rattle.answers_c.specs.declared.GptCount.{GptCount}
@@ -16,16 +17,16 @@ unfoldable pub crossed : {A S : Type 0} → (ℕ → A → S) → A → Answer A
 crossed make z (accepted x) = make 0 x
 crossed make z (refused w) = make w.number z
 
--- the same of an answer that has its value beside the verdict
-unfoldable pub aside : {A S : Type 0} → (ℕ → A → S) → Beside A → S
-aside make r = make (number_of r.verdict) r.value
-
 abbrev pub count_to_c : Answer ℕ → GptCount
 count_to_c a = crossed (λ k n. record { number = k; count = n }) 0 a
 
 -- the slot of a list of at most one; 0: no more
 abbrev pub next_to_c : Answer (List ℕ) → GptNext
 next_to_c a = crossed (λ k l. record { number = k; slot = get_or l 0 0 }) [] a
+
+-- a slot that was asked for; 0 beside a refusal
+abbrev pub found_to_c : Answer Slot → GptNext
+found_to_c a = crossed (λ k s. record { number = k; slot = s.0 }) (record { 0 = 0 }) a
 
 abbrev pub held_made : ℕ → Found → GptSlotRead
 held_made k f = record { number = k; present = f.present; partition = f.partition }

@@ -1,3 +1,2 @@
 -- The definitions that the contracts of `builder` cite, by document 01.
 pub mod Building
-pub mod Meanings

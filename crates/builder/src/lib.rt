@@ -3,10 +3,10 @@
 
 pub mod lending; // lending.rt: what every lent setter and every caller of one promise
 
+ghost use Rattle.units.specs.Meanings.{means};
 ghost use Rattle.std.specs.Prelude.{◌≡◌, ◌+◌, ◌<◌, ◌≤◌, ◌^◌};
 ghost use Rattle.builder.specs.Building.{new_builder, of_header, built, greater, blocks_for, sides_of, before_array, header_of};
 ghost use Rattle.builder.specs.Building.{with_primary, with_disk_guid, with_backup_lba, with_first_usable, with_last_usable, with_num_parts, with_part_size};
-ghost use Rattle.builder.specs.Meanings.{built_means};
 
 use header::{Header, Revision};
 use units::{Guid, Lba, Refusal};
@@ -22,12 +22,6 @@ pub struct HeaderBuilder {
     last_usable: Lba,
     num_parts: u32,
     part_size: u32,
-}
-
-#[derive(Clone, Copy)]
-pub enum HeaderBuilt {
-    Built(Header),
-    Refused(Refusal),
 }
 
 fn greater_of(x: u64, y: u64) -> u64
@@ -234,33 +228,33 @@ impl HeaderBuilder {
     }
 
     // The header that the builder stands for: 1, 9, 3, 10, 10, 3.
-    pub fn build(self, b: u64) -> HeaderBuilt
-        ensures { built_means result ≡ built self b }
+    pub fn build(self, b: u64) -> Result<Header, Refusal>
+        ensures { means result ≡ built self b }
     {
         if !units::good_block_size(b) {
-            return HeaderBuilt::Refused(Refusal::BadBlockSize);
+            return Err(Refusal::BadBlockSize);
         }
         let backup = self.backup_lba.0;
         if backup < self.primary_lba.0 {
-            return HeaderBuilt::Refused(Refusal::MissingBackupLba);
+            return Err(Refusal::MissingBackupLba);
         }
         let bytes = self.num_parts as u64 * self.part_size as u64;
         if 0xFFFF_FFFF < bytes {
-            return HeaderBuilt::Refused(Refusal::Overflow);
+            return Err(Refusal::Overflow);
         }
         let p = blocks_for(bytes, b);
         if backup < p + 1 {
-            return HeaderBuilt::Refused(Refusal::BackupLbaToEarly);
+            return Err(Refusal::BackupLbaToEarly);
         }
         let first = greater_of(self.first_usable.0, 2 + p);
         let last = greater_of(self.last_usable.0, backup - p - 1);
         if last < first {
-            return HeaderBuilt::Refused(Refusal::BackupLbaToEarly);
+            return Err(Refusal::BackupLbaToEarly);
         }
         let before = block_before_array(self, last);
         if before == 0xFFFF_FFFF_FFFF_FFFF {
-            return HeaderBuilt::Refused(Refusal::Overflow);
+            return Err(Refusal::Overflow);
         }
-        HeaderBuilt::Built(header_of(self, first, last, before + 1))
+        Ok(header_of(self, first, last, before + 1))
     }
 }

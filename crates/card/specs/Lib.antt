@@ -1,3 +1,2 @@
 -- The definitions that the contracts of `card` cite.
 pub mod Calls
-pub mod Meanings

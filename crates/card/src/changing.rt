@@ -6,12 +6,12 @@ ghost use Rattle.units.proofs.Chains.{found};
 ghost use Rattle.units.specs.Answer.{of_slot, when, or_else};
 ghost use Rattle.units.specs.Bytes.{part};
 ghost use Rattle.crc32.specs.Crc.{crc};
-ghost use Rattle.crc32.specs.Rows.{Rows};
 ghost use Rattle.tables.specs.Lens.{Front, side_of, copy_in, tables, with_tables};
 ghost use Rattle.tables.specs.Entries.{set_entry, used, first_of, last_of};
 ghost use Rattle.tables.specs.Check.{room_check, table_check, check, bad_slot};
 ghost use Rattle.card.specs.Calls.{record_check, first_overlap, overlap_check, twin_check, flag_check, entry_check, put_check, KeptGuid, changed_bytes, changed};
 
+use units::inner::Field;
 use units::why::Why;
 use units::{BytePlace, Guid, Lba, Place, Slot, why};
 
@@ -44,14 +44,12 @@ fn first_overlap(copy: &[u8], at: BytePlace, k: u32, first: Lba, last: Lba) -> u
     requires { at.0 + 16384 ≤ length copy.now }
     ensures { (e : List ℕ) → used e ≡ true → first.0 ≡ first_of e → last.0 ≡ last_of e → result ≡ first_overlap (part copy.now at.0 16384) k e }
 {
-    let mut j = 0;
-    while j < 128 {
+    for j in 0..128 {
         let place = partition::inner::entry_place(at, j as usize);
         let met = checking::inner::overlaps(copy, place, first, last);
         if (j != k) & met {
             return j;
         }
-        j += 1;
     }
     128
 }
@@ -139,18 +137,11 @@ pub fn entry_check<'a>(
 }
 
 // All that put tests, of an image.
-pub fn put_check<'a>(
-    t: &'a [u32; 4096],
-    img: &'a [u8],
-    b: u64,
-    slot: Slot,
-    e: &'a [u8],
-    reserved: u64,
-) -> Why
-    requires { Rows 16 t.now × (length e.now ≡ 128) }
+pub fn put_check(img: &[u8], b: u64, slot: Slot, e: &[u8], reserved: u64) -> Why
+    requires { length e.now ≡ 128 }
     ensures { result ≡ put_check b (length img.now) (tables b img.now) slot.0 e.now reserved }
 {
-    let found = checking::inner::check_with(t, img, b);
+    let found = checking::inner::check_with(img, b);
     if found.number != 0 {
         return found;
     }
@@ -184,64 +175,51 @@ fn bytes_after(slot: Slot) -> usize
 }
 
 // The sum of a copy's array once a slot has other bytes, from the sum in its header, which the check has just confirmed.
-fn sum_with<'a>(
-    t: &'a [u32; 4096],
-    copy: &'a [u8],
-    len: usize,
-    b: u64,
-    back: bool,
-    slot: Slot,
-    e: &'a [u8],
-) -> u32
-    requires rows { Rows 16 t.now }
+fn sum_with(copy: &[u8], len: usize, b: u64, back: bool, slot: Slot, e: &[u8]) -> u32
     requires len_value { ((room_check b len).number ≡ 0) × (length copy.now ≡ b + 16384) }
     requires copy_value { (table_check b len (side_of back) (copy_in b (side_of back) copy.now)).number ≡ 0 }
     requires slot_value { (bad_slot slot.0 ≡ false) × (length e.now ≡ 128) }
     ensures { result ≡ crc (set_entry (copy_in b (side_of back) copy.now).array (slot.0 - 1) e.now) }
 {
     let header = tables::inner::header_in(back);
-    let sum = units::inner::u32_at(copy, header.0 + 88);
+    let sum = u32::get(copy, header.0 + 88);
     let place = tables::inner::slot_in(b, back, slot);
     let at = place.0;
     let after = bytes_after(slot);
-    slot_sum::inner::sum_after(t, sum, &copy[at..at + 128], e, after)
+    slot_sum::inner::sum_after(sum, &copy[at..at + 128], e, after)
 }
 
 // The change of one copy: the slot's bytes, and then the header's block.
-pub fn change_copy<'a>(
-    t: &'a [u32; 4096],
+pub fn change_copy(
     copy: &mut [u8],
     len: usize,
     b: u64,
     back: bool,
     slot: Slot,
-    e: &'a [u8],
+    e: &[u8],
     guid: Guid,
     parts: u32,
 )
-    requires rows { Rows 16 t.now }
     requires len_value { ((room_check b len).number ≡ 0) × (length copy.old ≡ b + 16384) }
     requires slot_value { (bad_slot slot.0 ≡ false) × (length e.now ≡ 128) }
     ensures { copy.new ≡ changed_bytes b len (side_of back) copy.old slot.0 e.now guid parts }
 {
     tables::inner::put_slot(copy, b, back, slot, e);
-    tables::inner::put_header(t, copy, len, b, back, guid, parts);
+    tables::inner::put_header(copy, len, b, back, guid, parts);
 }
 
 // The same of the copy at a place of an image.
-pub fn change_at<'a>(
-    t: &'a [u32; 4096],
+pub fn change_at(
     s: &mut [u8],
     place: BytePlace,
     len: usize,
     b: u64,
     back: bool,
     slot: Slot,
-    e: &'a [u8],
+    e: &[u8],
     guid: Guid,
     parts: u32,
 )
-    requires rows { Rows 16 t.now }
     requires len_value { ((room_check b len).number ≡ 0) × (place.0 + (b + 16384) ≤ length s.old) }
     requires slot_value { (bad_slot slot.0 ≡ false) × (length e.now ≡ 128) }
     ensures { s.new ≡ sets s.old place.0 (changed_bytes b len (side_of back) (part s.old place.0 (b + 16384)) slot.0 e.now guid parts) }
@@ -249,7 +227,6 @@ pub fn change_at<'a>(
     let at = place.0;
     let size = b as usize;
     change_copy(
-        t,
         &mut s[at..at + (size + 16384)],
         len,
         b,
@@ -271,27 +248,18 @@ pub fn front_guid(s: &[u8], b: u64) -> Guid
 }
 
 // The front array's sum once a slot has other bytes.
-pub fn front_sum<'a>(
-    t: &'a [u32; 4096],
-    s: &'a [u8],
-    len: usize,
-    b: u64,
-    slot: Slot,
-    e: &'a [u8],
-) -> u32
-    requires rows { Rows 16 t.now }
+pub fn front_sum(s: &[u8], len: usize, b: u64, slot: Slot, e: &[u8]) -> u32
     requires len_value { ((room_check b len).number ≡ 0) × (b + (b + 16384) ≤ length s.now) }
     requires b_value { (table_check b len Front (copy_in b Front (part s.now b (b + 16384)))).number ≡ 0 }
     requires slot_value { (bad_slot slot.0 ≡ false) × (length e.now ≡ 128) }
     ensures { result ≡ crc (set_entry (copy_in b Front (part s.now b (b + 16384))).array (slot.0 - 1) e.now) }
 {
     let size = b as usize;
-    sum_with(t, &s[size..size + (size + 16384)], len, b, false, slot, e)
+    sum_with(&s[size..size + (size + 16384)], len, b, false, slot, e)
 }
 
 // The whole change of an image that the check accepts, the back table first. The new sum comes from the old one and the slot's bytes, before these are stored.
-pub fn change<'a>(t: &'a [u32; 4096], img: &mut [u8], b: u64, slot: Slot, e: &'a [u8])
-    requires rows { Rows 16 t.now }
+pub fn change(img: &mut [u8], b: u64, slot: Slot, e: &[u8])
     requires img_value { (check b (length img.old) (tables b img.old)).number ≡ 0 }
     requires slot_value { (bad_slot slot.0 ≡ false) × (length e.now ≡ 128) }
     ensures { img.new ≡ with_tables b img.old (changed b (length img.old) (tables b img.old) slot.0 e.now) }
@@ -299,10 +267,9 @@ pub fn change<'a>(t: &'a [u32; 4096], img: &mut [u8], b: u64, slot: Slot, e: &'a
     let len = img.len();
     let back = tables::inner::back_place(len, b);
     let guid = front_guid(img, b);
-    let parts = front_sum(t, img, len, b, slot, e);
-    change_at(t, img, back, len, b, true, slot, e, guid, parts);
+    let parts = front_sum(img, len, b, slot, e);
+    change_at(img, back, len, b, true, slot, e, guid, parts);
     change_at(
-        t,
         img,
         BytePlace(b as usize),
         len,

@@ -1,23 +1,15 @@
 // What a payload write tests, and where it stores. A slot's blocks are read once, and every later step has them by value.
+ghost use Rattle.units.specs.Meanings.{card_means};
 ghost use Rattle.std.specs.Prelude.{◌≡◌, false, not, ◌+◌, ◌*◌, ◌-◌, ◌≤◌, ltb, length};
 ghost use Rattle.units.proofs.Chains.{found};
 ghost use Rattle.units.specs.Answer.{accepted, refuse, pick};
-ghost use Rattle.crc32.specs.Rows.{Rows};
 ghost use Rattle.tables.specs.Lens.{Front, copy_in, tables};
 ghost use Rattle.tables.specs.Entries.{entry, used, first_of, last_of};
 ghost use Rattle.tables.specs.Check.{bad_slot};
 ghost use Rattle.card.specs.Calls.{used_check, place_answer, front_entry};
-ghost use Rattle.card.specs.Meanings.{spot_means};
 
 use units::why::Why;
 use units::{BytePlace, Lba, Place, Reason, Refusal, Slot, why};
-
-// Where a payload write stores, or why it refuses.
-#[derive(Clone, Copy)]
-pub enum Spot {
-    At(BytePlace),
-    Refused(Reason),
-}
 
 // 24, which names no place.
 const PAST_END: Reason = Reason {
@@ -26,7 +18,7 @@ const PAST_END: Reason = Reason {
 };
 
 // The blocks of a partition, from the first to the last.
-#[derive(Clone, Copy)]
+#[derive(Clone, Copy, Debug, PartialEq, Eq)]
 pub struct Span {
     pub first: Lba,
     pub last: Lba,
@@ -53,11 +45,10 @@ pub fn slot_span(front: &[u8], b: u64, slot: Slot) -> Span
 }
 
 // 18 no such slot, 23 unused, after the check.
-pub fn used_check<'a>(t: &'a [u32; 4096], img: &'a [u8], b: u64, slot: Slot) -> Why
-    requires { Rows 16 t.now }
+pub fn used_check(img: &[u8], b: u64, slot: Slot) -> Why
     ensures { result ≡ used_check b (length img.now) (tables b img.now) slot.0 }
 {
-    let found = checking::inner::slot_check(t, img, b, slot);
+    let found = checking::inner::slot_check(img, b, slot);
     if found.number != 0 {
         return found;
     }
@@ -70,9 +61,15 @@ pub fn used_check<'a>(t: &'a [u32; 4096], img: &'a [u8], b: u64, slot: Slot) -> 
 
 // Where n bytes at a place of a partition stand, in an image of len bytes: 24 if they pass the partition's end. The sum of place and n is never taken, so it cannot
 // wrap. The last test never refuses on a checked card; it keeps the store inside the image should another writer have changed the table since.
-pub fn place_in(span: Span, b: u64, place: BytePlace, n: usize, len: usize) -> Spot
+pub fn place_in(
+    span: Span,
+    b: u64,
+    place: BytePlace,
+    n: usize,
+    len: usize,
+) -> Result<BytePlace, Reason>
     requires { (1 ≤ b) × (span.first.0 ≤ span.last.0) × ((span.last.0 + 1) * b ≤ len) }
-    ensures { spot_means result ≡ pick (ltb ((span.last.0 + 1 - span.first.0) * b) (place.0 + n)) (refuse 24) (accepted (record { 0 = span.first.0 * b + place.0 })) }
+    ensures { card_means result ≡ pick (ltb ((span.last.0 + 1 - span.first.0) * b) (place.0 + n)) (refuse 24) (accepted (record { 0 = span.first.0 * b + place.0 })) }
 {
     let first = span.first;
     let last = span.last;
@@ -80,26 +77,31 @@ pub fn place_in(span: Span, b: u64, place: BytePlace, n: usize, len: usize) -> S
     let end = units::inner::place(Lba(last.0 + 1), b);
     let room = end.0 - start.0;
     if room < n {
-        return Spot::Refused(PAST_END);
+        return Err(PAST_END);
     }
     if room - n < place.0 {
-        return Spot::Refused(PAST_END);
+        return Err(PAST_END);
     }
     let at = BytePlace(start.0 + place.0);
     if !units::is_inside(len, at, n) {
-        return Spot::Refused(PAST_END);
+        return Err(PAST_END);
     }
-    Spot::At(at)
+    Ok(at)
 }
 
 // Where a payload write of n bytes at a place of a slot's partition stores them: 18, 23, 24 after the check.
-pub fn payload_place(img: &[u8], b: u64, slot: Slot, place: BytePlace, n: usize) -> Spot
-    ensures { spot_means result ≡ place_answer b img.now slot.0 place.0 n }
+pub fn payload_place(
+    img: &[u8],
+    b: u64,
+    slot: Slot,
+    place: BytePlace,
+    n: usize,
+) -> Result<BytePlace, Reason>
+    ensures { card_means result ≡ place_answer b img.now slot.0 place.0 n }
 {
-    let t = crc32::inner::table();
-    let found = used_check(&t, img, b, slot);
+    let found = used_check(img, b, slot);
     if found.number != 0 {
-        return Spot::Refused(found.reason());
+        return Err(found.reason());
     }
     let size = b as usize;
     let span = slot_span(&img[size..size + (size + 16384)], b, slot);

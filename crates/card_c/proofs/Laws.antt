@@ -5,26 +5,23 @@ use mathlib.Core.List.{List, []}
 use Prim.Native.Nat.{ℕ, zero, suc}
 use lib.ListN.{length}
 use Rattle.units.specs.declared.why.Why.{Why}
-use Rattle.units.specs.Answer.{Answer, accepted, refused, fine, if_zero, Beside, beside, Outcome, gives, Ends}
+use Rattle.units.specs.Answer.{Answer, accepted, refused, fine, if_zero}
 use Rattle.rows.specs.declared.Entry.{Entry}
 use Rattle.rows.specs.Plans.{roomed}
 use Rattle.ground.specs.Answers.{Rows, RowsEnd}
 use Rattle.slot_map.specs.declared.SlotMap.{SlotMap}
 use Rattle.slot_map.specs.Bits.{map_of}
 use Rattle.slot_map.proofs.BitLaws.{map-none}
-use Rattle.label.specs.declared.Dated.{Dated}
-use Rattle.label.specs.Judging.{SetAnswer, one_date, refused_at}
 use Rattle.windows.specs.Windows.{whole, window_check, window_answer, Windowed, WindowEnds}
-use Rattle.answers_c.specs.Crossing.{outcome_to_c}
 use Rattle.card_c.specs.declared.answers.CardAnswer.{CardAnswer}
-use Rattle.card_c.specs.CardExports.{rows_to_c, why_to_c, crossed_at, aside_at, map_bits, made_told, MadeToC, judged_made, judged_to_c}
+use Rattle.card_c.specs.CardExports.{rows_to_c, why_to_c, crossed_at, map_bits, made_told, MadeToC}
 use Rattle.card_c.specs.Windows.{window_to_c}
 
 -- a call that lends two rows and ends in an outcome ends in the outcome so told
 pub told-rows : {A C : Type 0} (f : A → C) (o : Rows A) {a : A} {r : C} {s l : List ℕ} → RowsEnd o a s l → r ≡ f a → RowsEnd (rows_to_c f o) r s l
 told-rows f o e q = record { answer = q ∙ ap f e.answer; starts = e.starts; lengths = e.lengths }
 
--- the laws of answers_c for the card calls, whose answers say the place
+-- the laws of the answers that say the place
 module _ {A S : Type 0} (make : CardAnswer → A → S) (z : A) where
   pub card-fine : (a : Answer A) {x : A} → a ≡ accepted x → make (why_to_c fine) x ≡ crossed_at make z a
   unfolding crossed_at
@@ -33,16 +30,6 @@ module _ {A S : Type 0} (make : CardAnswer → A → S) (z : A) where
   pub card-no : (a : Answer A) {w : Why} {k : CardAnswer} → a ≡ refused w → k ≡ why_to_c w → make k z ≡ crossed_at make z a
   unfolding crossed_at
   card-no a e q = ap (λ (i : CardAnswer). make i z) q ∙ sym (ap (crossed_at make z) e)
-
-  pub aside-card : (a : Answer A) → aside_at make (beside z a) ≡ crossed_at make z a
-  unfolding aside_at beside crossed_at
-  aside-card (accepted x) = refl
-  aside-card (refused w) = refl
-
-  -- a call that ends in an outcome whose value stands beside the verdict ends in the outcome so told
-  pub told-beside : (o : Outcome (Answer A)) {a : Beside A} {r : S} {i : List ℕ}
-      → Ends (gives (beside z o.answer) o.image) a i → r ≡ aside_at make a → Ends (outcome_to_c (crossed_at make z) o) r i
-  told-beside o e q = record { answer = q ∙ ap (aside_at make) e.answer ∙ aside-card o.answer; image = e.image }
 
 -- and of a map that is made, zero beside a refusal
 module _ (a : Answer (List Bool)) where
@@ -57,26 +44,11 @@ module _ (a : Answer (List Bool)) where
   unfolding map_bits
   map-no {w} {k} e q = told-map k (record { low = 0; high = 0 }) (card-no (λ k bs. k) [] a e q) (map-none ∙ sym (ap map_bits e))
 
--- and of a set that is judged, whose refusal comes with a slot of the list
-module _ (a : SetAnswer) where
-  pub judged-fine : {d : Dated} → a ≡ one_date d → judged_made 0 (why_to_c fine) d ≡ judged_to_c a
-  unfolding crossed_at
-  judged-fine e = sym (ap judged_to_c e)
-
-  pub judged-no : {w : Why} {s : ℕ} {k : CardAnswer} → a ≡ refused_at w s → k ≡ why_to_c w → judged_made s k (record { year = 0; month = 0; day = 0; style = 0 }) ≡ judged_to_c a
-  unfolding crossed_at
-  judged-no {w} {s} e q = ap (λ (i : CardAnswer). judged_made s i (record { year = 0; month = 0; day = 0; style = 0 })) q ∙ sym (ap judged_to_c e)
-
 -- ---- the calls on two windows
 
 -- a call that ends so in both windows ends in the outcome so told
 pub told-window : {A C : Type 0} (f : A → C) (o : Windowed A) {a : A} {r : C} {h t : List ℕ} → WindowEnds o a h t → r ≡ f a → WindowEnds (window_to_c f o) r h t
 told-window f o e q = record { answer = q ∙ ap f e.answer; front = e.front; back = e.back }
-
--- and so does one whose value stands beside the verdict
-pub told-window-beside : {A S : Type 0} (make : CardAnswer → A → S) (z : A) (o : Windowed (Answer A)) {a : Beside A} {r : S} {h t : List ℕ}
-    → WindowEnds (record { answer = beside z o.answer; head = o.head; tail = o.tail }) a h t → r ≡ aside_at make a → WindowEnds (window_to_c (crossed_at make z) o) r h t
-told-window-beside make z o e q = record { answer = q ∙ ap (aside_at make) e.answer ∙ aside-card make z o.answer; front = e.front; back = e.back }
 
 -- the windows' own numbers come before the 15 of the lent rows
 pub window-within : (B N : ℕ) (head tail : List ℕ) (m : ℕ) (f g : List ℕ → Answer (List Entry)) → ((xs : List ℕ) → roomed m (f xs) ≡ g xs) → roomed m (window_answer B N head tail f) ≡ window_answer B N head tail g

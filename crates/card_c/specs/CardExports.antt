@@ -1,12 +1,13 @@
 -- What C gets for each answer of the card calls: the number first, 0 for accepted, then the values, and the place that the card check names (document 02, 5/13), with the slot that
 -- differs apart from the slot that 22 or 25 carries. Beside a refusal each value is zero. Assumes nothing.
-use Rattle.std.specs.Prelude.{◌≡◌, Bool, true, false, List, [], ℕ, get_or, replicate}
+use Rattle.std.specs.Prelude.{◌≡◌, Result, Bool, true, false, List, [], ℕ, get_or, replicate}
 use Rattle.units.specs.declared.BytePlace.{BytePlace}
 use Rattle.units.specs.declared.Slot.{Slot}
 use Rattle.units.specs.declared.Place.{Place}
+use Rattle.units.specs.declared.Reason.{Reason}
 use Rattle.units.specs.declared.Place.TheVariants as place
 use Rattle.units.specs.declared.why.Why.{Why}
-use Rattle.units.specs.Answer.{Answer, accepted, refused, fine, and_then, Beside}
+use Rattle.units.specs.Answer.{Answer, accepted, refused, fine, and_then}
 use Rattle.units.specs.Meanings.{card_means}
 use Rattle.units.specs.Guids.{nil_guid}
 use Rattle.partition.specs.Array.{Found}
@@ -15,8 +16,9 @@ use Rattle.tables.specs.Lens.{Side, Front, Back}
 use Rattle.ground.specs.Answers.{Rows}
 use Rattle.listing.specs.Listing.{Listed}
 use Rattle.listing.specs.Meanings.{Used, first_used}
-use Rattle.slot_map.specs.declared.Carried.{Carried}
+use Rattle.slot_map.specs.declared.SlotMap.{SlotMap}
 use Rattle.slot_map.specs.Bits.{map_of}
+use Rattle.slot_map.specs.Map.{verdict, kept}
 use Rattle.staged.specs.declared.Update.{Update}
 use Rattle.staged.specs.declared.Repair.{Repair}
 use Rattle.staged.specs.Meanings.{zero_update}
@@ -70,10 +72,6 @@ crossed_at make z (refused w) = make (why_to_c w) z
 
 abbrev pub answer_to_c : Answer Unit → CardAnswer
 answer_to_c a = crossed_at (λ k u. k) tt a
-
--- the same of an answer that has its value beside the verdict
-unfoldable pub aside_at : {A S : Type 0} → (CardAnswer → A → S) → Beside A → S
-aside_at make r = make (answer_to_c r.verdict) r.value
 
 abbrev pub card_stored_made : CardAnswer → ℕ → CardStored
 card_stored_made k n = record { number = k.number; place = k.place; differs = k.differs; bytes = n }
@@ -132,9 +130,9 @@ pub record MadeToC (a : Answer (List Bool)) (o : CardMapMade) : Type 0 where
   pub differs : o.differs ≡ (made_told a).differs
   pub map : map_of o.map ≡ map_bits a
 
--- a map is handed on as it is
-abbrev pub carried_to_c : Carried → CardCarried
-carried_to_c r = record { answer = answer_to_c (card_means r.verdict); map = r.map }
+-- a map is handed on as it is, beside a refusal the caller's own
+abbrev pub carried_to_c : SlotMap → Result SlotMap Reason → CardCarried
+carried_to_c m r = record { answer = answer_to_c (card_means (verdict r)); map = kept m r }
 
 -- the lowest free slot of a map; 33 names no place
 abbrev pub free_to_c : Answer Slot → GptNext

@@ -1,18 +1,17 @@
 // What comes back to C from the card calls: document 01's number first, 0 for accepted, then the values; beside a refusal each value is zero. What each struct holds is in specs/CardExports.
 ghost use Rattle.std.specs.Prelude.{◌≡◌};
 ghost use Rattle.units.specs.Refusals.{slot_in, why_at};
-ghost use Rattle.units.specs.Meanings.{card_means, card_stored_means};
-ghost use Rattle.card.specs.Meanings.{spot_means};
-ghost use Rattle.listing.specs.Meanings.{card_count_means, card_next_means, slot_means, used_means};
-ghost use Rattle.card_c.specs.CardExports.{place_number, differs_in, why_to_c, answer_to_c, card_stored_to_c, spot_to_c, card_count_to_c, card_next_to_c, aside_at, card_held_made, used_made};
+ghost use Rattle.units.specs.Meanings.{card_means};
+ghost use Rattle.listing.specs.Meanings.{card_next_means, slot_means, used_means};
+ghost use Rattle.card_c.specs.CardExports.{place_number, differs_in, why_to_c, answer_to_c, card_stored_to_c, spot_to_c, card_count_to_c, card_next_to_c, card_held_to_c, used_to_c};
 
-use card::payload::Spot;
 use partition::Partition;
-use units::{CardVerdict, Place, Reason, Refusal};
+use rows::Entry;
+use units::{BytePlace, Place, Reason, Refusal, Slot};
 
 // The slot is the one that 22 and 25 carry, else 0. The place is 1 for the front table, 2 for the back one, 3 for the disk GUIDs and 4 for a slot, which is then the one that differs; else 0.
 #[repr(C)]
-#[derive(Clone, Copy)]
+#[derive(Clone, Copy, Debug, PartialEq, Eq)]
 pub struct CardAnswer {
     pub number: u32,
     pub slot: u32,
@@ -22,7 +21,7 @@ pub struct CardAnswer {
 
 // How many bytes a card call stored.
 #[repr(C)]
-#[derive(Clone, Copy)]
+#[derive(Clone, Copy, Debug, PartialEq, Eq)]
 pub struct CardStored {
     pub number: u32,
     pub place: u32,
@@ -32,7 +31,7 @@ pub struct CardStored {
 
 // Where a slot's bytes stand in a card.
 #[repr(C)]
-#[derive(Clone, Copy)]
+#[derive(Clone, Copy, Debug, PartialEq, Eq)]
 pub struct CardSpot {
     pub number: u32,
     pub place: u32,
@@ -41,7 +40,7 @@ pub struct CardSpot {
 }
 
 #[repr(C)]
-#[derive(Clone, Copy)]
+#[derive(Clone, Copy, Debug, PartialEq, Eq)]
 pub struct CardCount {
     pub number: u32,
     pub count: u32,
@@ -51,7 +50,7 @@ pub struct CardCount {
 
 // Slot 0: no more.
 #[repr(C)]
-#[derive(Clone, Copy)]
+#[derive(Clone, Copy, Debug, PartialEq, Eq)]
 pub struct CardNext {
     pub number: u32,
     pub slot: u32,
@@ -61,7 +60,7 @@ pub struct CardNext {
 
 // Whether a slot of a card is present, and its record.
 #[repr(C)]
-#[derive(Clone, Copy)]
+#[derive(Clone, Copy, Debug, PartialEq, Eq)]
 pub struct CardSlotRead {
     pub number: u32,
     pub present: bool,
@@ -72,7 +71,7 @@ pub struct CardSlotRead {
 
 // Whether there is such a used slot, the slot, and its record.
 #[repr(C)]
-#[derive(Clone, Copy)]
+#[derive(Clone, Copy, Debug, PartialEq, Eq)]
 pub struct CardUsedRead {
     pub number: u32,
     pub found: bool,
@@ -120,161 +119,209 @@ fn differs_in(p: Place) -> u32
 }
 
 // Why a card call refuses. The other answers take their parts from it.
-pub fn reason_to_c(r: Reason) -> CardAnswer
-    ensures { result ≡ why_to_c (why_at r) }
-{
-    let what = r.what;
-    let place = r.place;
-    CardAnswer {
-        number: what.number(),
-        slot: slot_in(what),
-        place: place_number(place),
-        differs: differs_in(place),
-    }
-}
+impl From<Reason> for CardAnswer {
+    ghost from_gives = { λ r a. a ≡ why_to_c (why_at r) };
 
-#[tactic(auto, unfolding(crate::specs::CardExports::crossed_at))]
-pub fn answer_to_c(v: CardVerdict) -> CardAnswer
-    ensures { result ≡ answer_to_c (card_means v) }
-{
-    match v {
-        CardVerdict::Accepted => CardAnswer {
-            number: 0,
-            slot: 0,
-            place: 0,
-            differs: 0,
-        },
-        CardVerdict::Refused(w) => reason_to_c(w),
-    }
-}
-
-#[tactic(auto, unfolding(crate::specs::CardExports::crossed_at))]
-pub fn card_stored_to_c(r: units::CardStored) -> CardStored
-    ensures { result ≡ card_stored_to_c (card_stored_means r) }
-{
-    match r {
-        units::CardStored::Bytes(n) => CardStored {
-            number: 0,
-            place: 0,
-            differs: 0,
-            bytes: n as u64,
-        },
-        units::CardStored::Refused(w) => {
-            let k = reason_to_c(w);
-            CardStored {
-                number: k.number,
-                place: k.place,
-                differs: k.differs,
-                bytes: 0,
-            }
+    fn from(r: Reason) -> CardAnswer {
+        CardAnswer {
+            number: r.what.number(),
+            slot: slot_in(r.what),
+            place: place_number(r.place),
+            differs: differs_in(r.place),
         }
     }
 }
 
-#[tactic(auto, unfolding(crate::specs::CardExports::crossed_at))]
-pub fn spot_to_c(r: Spot) -> CardSpot
-    ensures { result ≡ spot_to_c (spot_means r) }
-{
-    match r {
-        Spot::At(p) => CardSpot {
-            number: 0,
-            place: 0,
-            differs: 0,
-            at: p.0 as u64,
-        },
-        Spot::Refused(w) => {
-            let k = reason_to_c(w);
-            CardSpot {
-                number: k.number,
-                place: k.place,
-                differs: k.differs,
-                at: 0,
-            }
-        }
-    }
-}
+impl From<Result<(), Reason>> for CardAnswer {
+    ghost from_gives = { λ r a. a ≡ answer_to_c (card_means r) };
 
-#[tactic(auto, unfolding(crate::specs::CardExports::crossed_at))]
-pub fn card_count_to_c(r: listing::CardCount) -> CardCount
-    ensures { result ≡ card_count_to_c (card_count_means r) }
-{
-    match r {
-        listing::CardCount::Used(n) => CardCount {
-            number: 0,
-            count: n,
-            place: 0,
-            differs: 0,
-        },
-        listing::CardCount::Refused(w) => {
-            let k = reason_to_c(w);
-            CardCount {
-                number: k.number,
-                count: 0,
-                place: k.place,
-                differs: k.differs,
-            }
-        }
-    }
-}
-
-#[tactic(auto, unfolding(crate::specs::CardExports::crossed_at))]
-pub fn card_next_to_c(r: listing::CardNext) -> CardNext
-    ensures { result ≡ card_next_to_c (card_next_means r) }
-{
-    match r {
-        listing::CardNext::At(s) => CardNext {
-            number: 0,
-            slot: s.0,
-            place: 0,
-            differs: 0,
-        },
-        listing::CardNext::NoMore => CardNext {
-            number: 0,
-            slot: 0,
-            place: 0,
-            differs: 0,
-        },
-        listing::CardNext::Refused(w) => {
-            let k = reason_to_c(w);
-            CardNext {
-                number: k.number,
+    #[tactic(auto, unfolding(crate::specs::CardExports::crossed_at))]
+    fn from(r: Result<(), Reason>) -> CardAnswer {
+        match r {
+            Ok(()) => CardAnswer {
+                number: 0,
                 slot: 0,
-                place: k.place,
-                differs: k.differs,
+                place: 0,
+                differs: 0,
+            },
+            Err(w) => w.into(),
+        }
+    }
+}
+
+impl From<Result<usize, Reason>> for CardStored {
+    ghost from_gives = { λ r a. a ≡ card_stored_to_c (card_means r) };
+
+    #[tactic(auto, unfolding(crate::specs::CardExports::crossed_at))]
+    fn from(r: Result<usize, Reason>) -> CardStored {
+        match r {
+            Ok(n) => CardStored {
+                number: 0,
+                place: 0,
+                differs: 0,
+                bytes: n as u64,
+            },
+            Err(w) => {
+                let k = CardAnswer::from(w);
+                CardStored {
+                    number: k.number,
+                    place: k.place,
+                    differs: k.differs,
+                    bytes: 0,
+                }
             }
         }
     }
 }
 
-#[tactic(auto, unfolding(crate::specs::CardExports::aside_at))]
-pub fn card_slot_to_c(r: listing::SlotRead) -> CardSlotRead
-    ensures { result ≡ aside_at card_held_made (slot_means r) }
-{
-    let verdict = r.verdict;
-    let partition = r.partition;
-    let k = answer_to_c(verdict);
-    CardSlotRead {
-        number: k.number,
-        present: r.present,
-        place: k.place,
-        differs: k.differs,
-        partition,
+impl From<Result<BytePlace, Reason>> for CardSpot {
+    ghost from_gives = { λ r a. a ≡ spot_to_c (card_means r) };
+
+    #[tactic(auto, unfolding(crate::specs::CardExports::crossed_at))]
+    fn from(r: Result<BytePlace, Reason>) -> CardSpot {
+        match r {
+            Ok(p) => CardSpot {
+                number: 0,
+                place: 0,
+                differs: 0,
+                at: p.0 as u64,
+            },
+            Err(w) => {
+                let k = CardAnswer::from(w);
+                CardSpot {
+                    number: k.number,
+                    place: k.place,
+                    differs: k.differs,
+                    at: 0,
+                }
+            }
+        }
     }
 }
 
-#[tactic(auto, unfolding(crate::specs::CardExports::aside_at))]
-pub fn used_to_c(r: listing::UsedRead) -> CardUsedRead
-    ensures { result ≡ aside_at used_made (used_means r) }
-{
-    let verdict = r.verdict;
-    let partition = r.partition;
-    let k = answer_to_c(verdict);
-    CardUsedRead {
-        number: k.number,
-        found: r.found,
-        slot: r.slot.0,
-        place: k.place,
-        differs: k.differs,
-        partition,
+impl From<Result<u32, Reason>> for CardCount {
+    ghost from_gives = { λ r a. a ≡ card_count_to_c (card_means r) };
+
+    #[tactic(auto, unfolding(crate::specs::CardExports::crossed_at))]
+    fn from(r: Result<u32, Reason>) -> CardCount {
+        match r {
+            Ok(count) => CardCount {
+                number: 0,
+                count,
+                place: 0,
+                differs: 0,
+            },
+            Err(w) => {
+                let k = CardAnswer::from(w);
+                CardCount {
+                    number: k.number,
+                    count: 0,
+                    place: k.place,
+                    differs: k.differs,
+                }
+            }
+        }
+    }
+}
+
+impl From<Result<Option<Slot>, Reason>> for CardNext {
+    ghost from_gives = { λ r a. a ≡ card_next_to_c (card_next_means r) };
+
+    #[tactic(auto, unfolding(crate::specs::CardExports::crossed_at))]
+    fn from(r: Result<Option<Slot>, Reason>) -> CardNext {
+        match r {
+            Ok(Some(s)) => CardNext {
+                number: 0,
+                slot: s.0,
+                place: 0,
+                differs: 0,
+            },
+            Ok(None) => CardNext {
+                number: 0,
+                slot: 0,
+                place: 0,
+                differs: 0,
+            },
+            Err(w) => {
+                let k = CardAnswer::from(w);
+                CardNext {
+                    number: k.number,
+                    slot: 0,
+                    place: k.place,
+                    differs: k.differs,
+                }
+            }
+        }
+    }
+}
+
+impl From<Result<Option<Partition>, Reason>> for CardSlotRead {
+    ghost from_gives = { λ r a. a ≡ card_held_to_c (slot_means r) };
+
+    #[tactic(auto, unfolding(crate::specs::CardExports::crossed_at))]
+    fn from(r: Result<Option<Partition>, Reason>) -> CardSlotRead {
+        match r {
+            Ok(Some(partition)) => CardSlotRead {
+                number: 0,
+                present: true,
+                place: 0,
+                differs: 0,
+                partition,
+            },
+            Ok(None) => CardSlotRead {
+                number: 0,
+                present: false,
+                place: 0,
+                differs: 0,
+                partition: Partition::zero(),
+            },
+            Err(w) => {
+                let k = CardAnswer::from(w);
+                CardSlotRead {
+                    number: k.number,
+                    present: false,
+                    place: k.place,
+                    differs: k.differs,
+                    partition: Partition::zero(),
+                }
+            }
+        }
+    }
+}
+
+impl From<Result<Option<Entry>, Reason>> for CardUsedRead {
+    ghost from_gives = { λ r a. a ≡ used_to_c (used_means r) };
+
+    #[tactic(auto, unfolding(crate::specs::CardExports::crossed_at, listing::specs::Meanings::first_used))]
+    fn from(r: Result<Option<Entry>, Reason>) -> CardUsedRead {
+        match r {
+            Ok(Some(e)) => CardUsedRead {
+                number: 0,
+                found: true,
+                slot: e.slot.0,
+                place: 0,
+                differs: 0,
+                partition: e.partition,
+            },
+            Ok(None) => CardUsedRead {
+                number: 0,
+                found: false,
+                slot: 0,
+                place: 0,
+                differs: 0,
+                partition: Partition::zero(),
+            },
+            Err(w) => {
+                let k = CardAnswer::from(w);
+                CardUsedRead {
+                    number: k.number,
+                    found: false,
+                    slot: 0,
+                    place: k.place,
+                    differs: k.differs,
+                    partition: Partition::zero(),
+                }
+            }
+        }
     }
 }

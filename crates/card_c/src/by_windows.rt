@@ -15,7 +15,6 @@ ghost use Rattle.card_c.specs.Windows.{window_told, window_list, runs_to_c};
 
 use crate::answers::{CardAnswer, CardCount, CardNext, CardSlotRead, CardSpot, CardUsedRead};
 use crate::maps::CardMapMade;
-use crate::{answers, grounds, maps};
 use partition::Partition;
 use units::{BytePlace, Guid, Slot};
 
@@ -30,7 +29,7 @@ pub extern "C" fn card_window_lay(
 ) -> CardAnswer
     ensures { WindowEnds (window_told answer_to_c b blocks head.old tail.old (λ (xs : List ℕ). lay_outcome b xs guid)) result head.new tail.new }
 {
-    answers::answer_to_c(windows::lay(head, tail, blocks, b, guid))
+    windows::lay(head, tail, blocks, b, guid).into()
 }
 
 // The card check.
@@ -43,7 +42,7 @@ pub extern "C" fn card_window_check<'a>(
 ) -> CardAnswer
     ensures { result ≡ answer_to_c (window_answer b blocks head.now tail.now (check_answer b)) }
 {
-    answers::answer_to_c(windows::check(head, tail, blocks, b))
+    windows::check(head, tail, blocks, b).into()
 }
 
 // Puts a record into a slot of both tables.
@@ -58,7 +57,7 @@ pub extern "C" fn card_window_put(
 ) -> CardAnswer
     ensures { WindowEnds (window_told answer_to_c b blocks head.old tail.old (λ (xs : List ℕ). put_outcome b xs slot p)) result head.new tail.new }
 {
-    answers::answer_to_c(windows::put(head, tail, blocks, b, Slot(slot), p))
+    windows::put(head, tail, blocks, b, Slot(slot), p).into()
 }
 
 // Clears a slot in both tables.
@@ -72,7 +71,7 @@ pub extern "C" fn card_window_clear(
 ) -> CardAnswer
     ensures { WindowEnds (window_told answer_to_c b blocks head.old tail.old (λ (xs : List ℕ). clear_outcome b xs slot)) result head.new tail.new }
 {
-    answers::answer_to_c(windows::clear(head, tail, blocks, b, Slot(slot)))
+    windows::clear(head, tail, blocks, b, Slot(slot)).into()
 }
 
 // How many slots are used.
@@ -85,7 +84,7 @@ pub extern "C" fn card_window_count_used<'a>(
 ) -> CardCount
     ensures { result ≡ card_count_to_c (window_answer b blocks head.now tail.now (count_answer b)) }
 {
-    answers::card_count_to_c(windows_listing::count_used(head, tail, blocks, b))
+    windows_listing::count_used(head, tail, blocks, b).into()
 }
 
 // The first used slot after a slot, where slot 0 stands before the first.
@@ -99,7 +98,7 @@ pub extern "C" fn card_window_next_used<'a>(
 ) -> CardNext
     ensures { result ≡ card_next_to_c (window_answer b blocks head.now tail.now (λ (xs : List ℕ). next_answer b xs after)) }
 {
-    answers::card_next_to_c(windows_listing::next_used(head, tail, blocks, b, Slot(after)))
+    windows_listing::next_used(head, tail, blocks, b, Slot(after)).into()
 }
 
 // What a slot holds.
@@ -113,7 +112,7 @@ pub extern "C" fn card_window_read_slot<'a>(
 ) -> CardSlotRead
     ensures { result ≡ card_held_to_c (window_answer b blocks head.now tail.now (λ (xs : List ℕ). slot_read b xs slot)) }
 {
-    answers::card_slot_to_c(windows_listing::read_slot(head, tail, blocks, b, Slot(slot)))
+    windows_listing::read_slot(head, tail, blocks, b, Slot(slot)).into()
 }
 
 // Used slot k with its record, counted from 0.
@@ -127,7 +126,7 @@ pub extern "C" fn card_window_nth_used<'a>(
 ) -> CardUsedRead
     ensures { result ≡ used_to_c (window_answer b blocks head.now tail.now (λ (xs : List ℕ). nth_answer b xs k)) }
 {
-    answers::used_to_c(windows_listing::nth_used(head, tail, blocks, b, k))
+    windows_listing::nth_used(head, tail, blocks, b, k).into()
 }
 
 // The listing into lent bytes, 136 bytes an entry, and how many there are: 15 last, where there are fewer bytes.
@@ -143,7 +142,7 @@ pub extern "C" fn card_window_list<'a>(
 {
     let p = windows_listing::inner::plan_in(head, tail, blocks, b);
     let q = rows::inner::fill_bytes(head, p, out);
-    answers::card_count_to_c(listing::inner::count_by(q))
+    listing::inner::count_by(q).into()
 }
 
 // The free runs into two lent rows of numbers, and how many there are: 15 last, where either row is shorter.
@@ -158,7 +157,7 @@ pub extern "C" fn card_window_free_runs<'a>(
 ) -> CardCount
     ensures { RowsEnd (runs_to_c (ground_in b blocks head.now tail.now starts.old lengths.old)) result starts.new lengths.new }
 {
-    grounds::run_count_to_c(windows_listing::free_runs(head, tail, blocks, b, starts, lengths))
+    windows_listing::free_runs(head, tail, blocks, b, starts, lengths).into()
 }
 
 // The map of the used slots.
@@ -171,7 +170,7 @@ pub extern "C" fn card_window_map_make<'a>(
 ) -> CardMapMade
     ensures { MadeToC (window_answer b blocks head.now tail.now (made_answer b)) result }
 {
-    maps::made_to_c(windows_listing::slot_map(head, tail, blocks, b))
+    windows_listing::slot_map(head, tail, blocks, b).into()
 }
 
 // Where n bytes at a place of a slot's partition stand in the card.
@@ -187,14 +186,5 @@ pub extern "C" fn card_window_payload_place<'a>(
 ) -> CardSpot
     ensures { result ≡ spot_to_c (window_answer b blocks head.now tail.now (λ (xs : List ℕ). place_answer b xs slot place n)) }
 {
-    let spot = windows_listing::payload_place(
-        head,
-        tail,
-        blocks,
-        b,
-        Slot(slot),
-        BytePlace(place),
-        n,
-    );
-    answers::spot_to_c(spot)
+    windows_listing::payload_place(head, tail, blocks, b, Slot(slot), BytePlace(place), n).into()
 }

@@ -9,7 +9,6 @@ ghost use Rattle.answers_c.specs.Crossing.{outcome_to_c, count_to_c, next_to_c, 
 ghost use Rattle.card_c.specs.CardExports.{copy_to_c, update_to_c, repair_to_c};
 ghost use Rattle.card_c.specs.Windows.{window_to_c, window_told, window_reader_list};
 
-use crate::pulled;
 use crate::pulled::{CardCopy, CardRepairStep, CardUpdateStep};
 use answers_c::{GptCount, GptNext, GptSlotRead};
 use partition::Partition;
@@ -26,7 +25,7 @@ pub extern "C" fn card_window_reader_copy<'a>(
 ) -> CardCopy
     ensures { result ≡ copy_to_c (window_answer b blocks head.now tail.now (side_answer b)) }
 {
-    pulled::copy_to_c(windows_reader::good_copy(head, tail, blocks, b))
+    windows_reader::good_copy(head, tail, blocks, b).into()
 }
 
 // How many slots of that table are used: 1, 3, 8, 10, 32, 27.
@@ -39,7 +38,7 @@ pub extern "C" fn card_window_reader_count<'a>(
 ) -> GptCount
     ensures { result ≡ count_to_c (window_answer b blocks head.now tail.now (reader_count b)) }
 {
-    answers_c::count_to_c(windows_reader::count_used(head, tail, blocks, b))
+    windows_reader::count_used(head, tail, blocks, b).into()
 }
 
 // The first used slot of that table after a slot, where slot 0 stands before the first: 1, 3, 8, 10, 32, 27.
@@ -53,7 +52,7 @@ pub extern "C" fn card_window_reader_next<'a>(
 ) -> GptNext
     ensures { result ≡ next_to_c (window_answer b blocks head.now tail.now (λ (xs : List ℕ). reader_next b xs after)) }
 {
-    answers_c::next_to_c(windows_reader::next_used(head, tail, blocks, b, Slot(after)))
+    windows_reader::next_used(head, tail, blocks, b, Slot(after)).into()
 }
 
 // What a slot of that table holds: 1, 3, 8, 10, 32, 27, 18.
@@ -67,7 +66,7 @@ pub extern "C" fn card_window_reader_slot<'a>(
 ) -> GptSlotRead
     ensures { result ≡ held_to_c (window_answer b blocks head.now tail.now (λ (xs : List ℕ). reader_slot b xs slot)) }
 {
-    answers_c::slot_to_c(windows_reader::read_slot(head, tail, blocks, b, Slot(slot)))
+    windows_reader::read_slot(head, tail, blocks, b, Slot(slot)).into()
 }
 
 // That table's listing into lent bytes, 136 bytes an entry, and how many there are: 1, 3, 8, 10, 32, 27, 15 where there are fewer bytes.
@@ -84,7 +83,7 @@ pub extern "C" fn card_window_reader_list<'a>(
     let p = windows_reader::inner::plan_in(head, tail, blocks, b);
     let part = windows_reader::good_part(head, tail, blocks, b);
     let q = rows::inner::fill_bytes(part, p, out);
-    answers_c::count_to_c(q.answer())
+    q.answer().into()
 }
 
 // Stage one of a put: put's numbers and places on windows.
@@ -99,7 +98,7 @@ pub extern "C" fn card_window_start_put(
 ) -> CardUpdateStep
     ensures { WindowEnds (window_told update_to_c b blocks head.old tail.old (λ (xs : List ℕ). start_put b xs slot p)) result head.new tail.new }
 {
-    pulled::update_to_c(windows_staged::start_put(head, tail, blocks, b, Slot(slot), p))
+    windows_staged::start_put(head, tail, blocks, b, Slot(slot), p).into()
 }
 
 // Stage one of a clear: clear's numbers and places on windows.
@@ -113,7 +112,7 @@ pub extern "C" fn card_window_start_clear(
 ) -> CardUpdateStep
     ensures { WindowEnds (window_told update_to_c b blocks head.old tail.old (λ (xs : List ℕ). start_clear b xs slot)) result head.new tail.new }
 {
-    pulled::update_to_c(windows_staged::start_clear(head, tail, blocks, b, Slot(slot)))
+    windows_staged::start_clear(head, tail, blocks, b, Slot(slot)).into()
 }
 
 // A later stage of a put or a clear: 1, 26, 32.
@@ -128,7 +127,7 @@ pub extern "C" fn card_window_next_stage(
 ) -> CardUpdateStep
     ensures { WindowEnds (window_to_c update_to_c (next_windowed b blocks head.old tail.old stage state)) result head.new tail.new }
 {
-    pulled::update_to_c(windows_staged::next_stage(head, tail, blocks, b, stage, state))
+    windows_staged::next_stage(head, tail, blocks, b, stage, state).into()
 }
 
 // Stage one of a repair: 1, 3, 8, 10, 32, 27.
@@ -141,7 +140,7 @@ pub extern "C" fn card_window_start_repair(
 ) -> CardRepairStep
     ensures { WindowEnds (window_told repair_to_c b blocks head.old tail.old (λ (xs : List ℕ). start_repair b xs)) result head.new tail.new }
 {
-    pulled::repair_to_c(windows_staged::start_repair(head, tail, blocks, b))
+    windows_staged::start_repair(head, tail, blocks, b).into()
 }
 
 // A later stage of a repair: 1, 26, 32.
@@ -156,5 +155,5 @@ pub extern "C" fn card_window_next_repair(
 ) -> CardRepairStep
     ensures { WindowEnds (window_to_c repair_to_c (next_repair_windowed b blocks head.old tail.old stage state)) result head.new tail.new }
 {
-    pulled::repair_to_c(windows_staged::next_repair(head, tail, blocks, b, stage, state))
+    windows_staged::next_repair(head, tail, blocks, b, stage, state).into()
 }

@@ -8,8 +8,16 @@ mod every; // every.rt: one of them, of all calls
 mod say; // say.rt: the words of an answer
 mod script; // script.rt: the words of the script
 
+use crate::script::{Command, Line};
 use console::Output;
-use std::io::Write;
+use std::io;
+use std::io::{Read, Write};
+
+// How many bytes of the script are read.
+const MOST: u64 = 65536;
+
+// The byte that all bytes of a new image are.
+const FRESH: u8 = 0xA5;
 
 // The block size, and how many bytes of the space are the image.
 #[derive(Clone, Copy)]
@@ -18,84 +26,79 @@ struct Image {
     n: usize,
 }
 
-// A command that only looks at the image.
-fn look(img: &[u8], b: u64, line: &[u8], out: &mut Output<impl Write>) {
-    match script::command(line) {
-        b'u' => commands::used(img, b, out),
-        b'a' => commands::after(img, b, line, out),
-        b'g' => commands::get(img, b, line, out),
-        b'r' => commands::read(img, b, line, out),
-        b'd' => say::sum(crc32::crc32(img), out),
-        b'h' => commands::holds(img, b, line, out),
-        _ => out.text(b": unknown\n"),
-    }
-}
-
 // A command that prints a line.
-fn show(img: &mut [u8], b: u64, line: &[u8], out: &mut Output<impl Write>) {
-    say::start(b, line, out);
-    match script::command(line) {
-        b'l' | b'p' | b'n' | b'b' | b'c' => commands::judge(img, b, line, out),
-        b'w' => commands::write(img, b, line, out),
-        b'e' => every::call(img, b, out),
-        _ => look(img, b, line, out),
+fn show(img: &mut [u8], b: u64, line: Line<'_>, out: &mut impl Write) -> io::Result<()> {
+    write!(out, "{b}: ")?;
+    out.write_all(line.0)?;
+    match line.command() {
+        Command::Write => commands::write(img, b, line, out),
+        Command::Every => every::call(img, b, out),
+        Command::Used => commands::used(img, b, out),
+        Command::After => commands::after(img, b, line, out),
+        Command::Get => commands::get(img, b, line, out),
+        Command::Read => commands::read(img, b, line, out),
+        Command::Digest => commands::digest(img, out),
+        Command::Holds => commands::holds(img, b, line, out),
+        Command::Lay | Command::Put | Command::NilPut | Command::BearingPut | Command::Clear =>
+            commands::judge(img, b, line, out),
+        _ => writeln!(out, ": unknown"),
     }
 }
 
 // A command of the image. Nothing is printed for a changed byte (flip), for sums made right (seal, table), for a comment and for an empty line.
-fn act(img: &mut [u8], b: u64, line: &[u8], out: &mut Output<impl Write>) {
-    match script::command(line) {
-        b'f' => bytes::flip(img, b, line),
-        b's' => bytes::seal(img, b, line),
-        b't' => bytes::seal_table(img, b, line),
-        0 | b'#' => {}
-        _ => show(img, b, line, out),
+fn act(img: &mut [u8], b: u64, line: Line<'_>, out: &mut impl Write) -> io::Result<()> {
+    match line.command() {
+        Command::Flip => bytes::flip(img, b, line),
+        Command::Seal => bytes::seal(img, b, line),
+        Command::Table => bytes::seal_table(img, b, line),
+        Command::Nothing => {}
+        _ => return show(img, b, line, out),
     }
+    Ok(())
 }
 
-// A new image, whose bytes are all A5 hexadecimal: how many it has, and its block size.
-fn new_image(space: &mut [u8], line: &[u8], out: &mut Output<impl Write>) -> Image {
-    out.text(line);
-    out.text(b"\n");
-    bytes::fill(space, 0xA5);
-    Image {
-        b: script::number(line, 1),
-        n: script::count(line, 0),
-    }
+// A new image: how many bytes it has, and its block size.
+fn new_image(space: &mut [u8], line: Line<'_>, out: &mut impl Write) -> io::Result<Image> {
+    out.write_all(line.0)?;
+    writeln!(out)?;
+    space.fill(FRESH);
+    Ok(Image {
+        b: line.number(1),
+        n: line.count(0),
+    })
 }
 
-// One line of the script.
-fn step(space: &mut [u8], image: Image, line: &[u8], out: &mut Output<impl Write>) -> Image {
-    if script::command(line) == b'i' {
+// One line of the script. No command is carried out on an image that is longer than the space.
+fn step(space: &mut [u8], image: Image, line: Line<'_>, out: &mut impl Write) -> io::Result<Image> {
+    if line.command() == Command::Image {
         return new_image(space, line, out);
     }
-    let n = image.n;
-    if n <= space.len() {
-        act(&mut space[..n], image.b, line, out);
+    if image.n <= space.len() {
+        act(&mut space[..image.n], image.b, line, out)?;
     }
-    image
+    Ok(image)
 }
 
-fn run(space: &mut [u8], s: &[u8], out: &mut Output<impl Write>) {
+fn play(script: &[u8], out: &mut impl Write) -> io::Result<()> {
+    let mut space = [FRESH; 57444];
     let mut image = Image { b: 512, n: 0 };
-    let mut at = 0;
-    while at < s.len() {
-        let end = script::line_end(s, at);
-        image = step(space, image, &s[at..end], out);
-        at = end + 1;
+    for line in script.split(|letter| *letter == b'\n') {
+        image = step(&mut space, image, Line(line), out)?;
     }
+    Ok(())
+}
+
+// Reads the script to its end before any line of it is carried out.
+fn run(rt: &HostRuntime, out: &mut impl Write) -> io::Result<()> {
+    let mut script = Vec::new(rt.alloc());
+    rt.stdin().take(MOST).read_to_end(&mut script)?;
+    play(&script, out)
 }
 
 fn main(rt: HostRuntime) {
-    let mut space = [0xA5; 57444];
-    let mut buf = [0u8; 65536];
     let mut out = Output::new(rt.stdout());
-    let mut errors = rt.stderr();
-    match console::read_input(&mut rt.stdin(), &mut buf) {
-        Err(_) => console::complain(&mut errors, b"cases: cannot read the input\n"),
-        Ok(n) => run(&mut space, &buf[..n], &mut out),
-    }
-    if !out.is_ok() {
-        console::complain(&mut errors, b"cases: cannot write the output\n");
+    let ended = run(&rt, &mut out);
+    if let Some(failure) = out.failure(&ended) {
+        let _ = eprintln!(rt; "cases: {failure}");
     }
 }

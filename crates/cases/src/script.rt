@@ -1,111 +1,114 @@
 // The script: a line is a command in plain words, named by its first letter, with the numbers that it needs in their order.
-ghost use Rattle.std.specs.Prelude.{◌≤◌, length};
-
 use units::{BytePlace, Lba, Slot};
 
-// Where the line that starts at a place ends: at the next new line, or at the end of the script.
-pub fn line_end(s: &[u8], at: usize) -> usize
-    requires { at ≤ length s.now }
-    ensures { (at ≤ result) × (result ≤ length s.now) }
-{
-    for i in at..s.len() {
-        if s[i] == b'\n' {
-            return i;
-        }
-    }
-    s.len()
+// What a line asks for.
+#[derive(Clone, Copy, Debug, PartialEq, Eq)]
+pub enum Command {
+    // a new image
+    Image,
+    // card calls that accept or refuse
+    Lay,
+    Put,
+    NilPut,
+    BearingPut,
+    Clear,
+    Write,
+    // looks at the card
+    Used,
+    After,
+    Get,
+    Read,
+    Every,
+    // looks at the image
+    Digest,
+    Holds,
+    // changes of the image, for which nothing is printed
+    Flip,
+    Seal,
+    Table,
+    // a comment or an empty line
+    Nothing,
+    Unknown,
 }
 
-// The line's first letter; 0 for an empty line.
-pub fn command(line: &[u8]) -> u8 {
-    if line.len() == 0 {
-        return 0;
-    }
-    line[0]
-}
-
-// How far the numbers of a line are read: how many have ended, whether one goes on, and the value of the one that is wanted.
+// A line of the script, as it stands there.
 #[derive(Clone, Copy)]
-struct Reading {
-    ended: usize,
-    inside: bool,
-    value: u64,
-}
+pub struct Line<'a>(pub &'a [u8]);
 
-fn is_digit(c: u8) -> bool {
-    (b'0' <= c) & (c <= b'9')
-}
-
-// A number with one more digit. Another letter than a digit leaves it, and so does a digit for which 64 bits have no room.
-fn with_digit(v: u64, c: u8) -> u64 {
-    if c < b'0' {
-        return v;
-    }
-    if 1844674407370955161 < v {
-        return v;
-    }
-    std::num::wrapping_add_u64(v * 10, (c - b'0') as u64)
-}
-
-impl Reading {
-    // One letter on, where number k is wanted.
-    fn with(self, c: u8, k: usize) -> Reading {
-        let mut r = self;
-        if is_digit(c) {
-            r.inside = true;
-            if r.ended == k {
-                r.value = with_digit(r.value, c);
-            }
-        } else if r.inside {
-            r.inside = false;
-            r.ended = std::num::wrapping_add_usize(r.ended, 1);
+impl Line<'_> {
+    pub fn command(self) -> Command {
+        match self.0.first() {
+            Some(b'i') => Command::Image,
+            Some(b'l') => Command::Lay,
+            Some(b'p') => Command::Put,
+            Some(b'n') => Command::NilPut,
+            Some(b'b') => Command::BearingPut,
+            Some(b'c') => Command::Clear,
+            Some(b'w') => Command::Write,
+            Some(b'u') => Command::Used,
+            Some(b'a') => Command::After,
+            Some(b'g') => Command::Get,
+            Some(b'r') => Command::Read,
+            Some(b'e') => Command::Every,
+            Some(b'd') => Command::Digest,
+            Some(b'h') => Command::Holds,
+            Some(b'f') => Command::Flip,
+            Some(b's') => Command::Seal,
+            Some(b't') => Command::Table,
+            None | Some(0) | Some(b'#') => Command::Nothing,
+            Some(_) => Command::Unknown,
         }
-        r
+    }
+
+    // Number k of the line, counted from 0; 0 if there are fewer.
+    pub fn number(self, k: usize) -> u64 {
+        self.0
+            .split(|letter| !letter.is_ascii_digit())
+            .filter(|digits| !digits.is_empty())
+            .nth(k)
+            .map_or(0, value)
+    }
+
+    pub fn block(self, k: usize) -> Lba {
+        Lba(self.number(k))
+    }
+
+    pub fn slot(self, k: usize) -> Slot {
+        Slot((self.number(k) & 0xFFFF_FFFF) as u32)
+    }
+
+    pub fn place(self, k: usize) -> BytePlace {
+        BytePlace(self.count(k))
+    }
+
+    pub fn count(self, k: usize) -> usize {
+        self.number(k) as usize
+    }
+
+    pub fn byte(self, k: usize) -> u8 {
+        (self.number(k) & 0xFF) as u8
+    }
+
+    // The name whose units are the numbers after the first four.
+    pub fn name(self) -> [u16; 36] {
+        let mut name = [0; 36];
+        for (unit, k) in name.iter_mut().zip(4..40) {
+            *unit = (self.number(k) & 0xFFFF) as u16;
+        }
+        name
     }
 }
 
-// Number k of a line, counted from 0; 0 if there are fewer.
-pub fn number(line: &[u8], k: usize) -> u64 {
-    let mut r = Reading {
-        ended: 0,
-        inside: false,
-        value: 0,
-    };
-    for c in line {
-        r = r.with(*c, k);
+// The number that digits write. A digit for which 64 bits have no room leaves it as it was.
+fn value(digits: &[u8]) -> u64 {
+    digits
+        .iter()
+        .fold(0, |number, digit| with_digit(number, *digit))
+}
+
+fn with_digit(number: u64, digit: u8) -> u64 {
+    match number.checked_mul(10) {
+        Some(tens) => tens.wrapping_add(u64::from(digit.wrapping_sub(b'0'))),
+        None => number,
     }
-    r.value
-}
-
-pub fn block(line: &[u8], k: usize) -> Lba {
-    Lba(number(line, k))
-}
-
-pub fn slot(line: &[u8], k: usize) -> Slot {
-    Slot((number(line, k) % 0x1_0000_0000) as u32)
-}
-
-pub fn place(line: &[u8], k: usize) -> BytePlace {
-    BytePlace(number(line, k) as usize)
-}
-
-pub fn count(line: &[u8], k: usize) -> usize {
-    number(line, k) as usize
-}
-
-pub fn byte(line: &[u8], k: usize) -> u8 {
-    (number(line, k) % 256) as u8
-}
-
-fn unit(line: &[u8], k: usize) -> u16 {
-    (number(line, k) % 65536) as u16
-}
-
-// The name whose units are the numbers after the first four.
-pub fn name(line: &[u8]) -> [u16; 36] {
-    let mut name = [0u16; 36];
-    for i in 0..36 {
-        name[i] = unit(line, i + 4);
-    }
-    name
 }

@@ -7,7 +7,6 @@ ghost use Rattle.units.proofs.Chains.{found, last};
 ghost use Rattle.units.specs.Bytes.{part, same};
 ghost use Rattle.units.specs.Meanings.{card_means};
 ghost use Rattle.crc32.specs.Crc.{crc};
-ghost use Rattle.crc32.specs.Rows.{Rows};
 ghost use Rattle.tables.specs.Checks.{all};
 ghost use Rattle.tables.specs.Places.{first_usable_of, last_usable_of};
 ghost use Rattle.tables.specs.Lens.{Front, Back, side_of, copy_in, copies, tables};
@@ -18,7 +17,7 @@ ghost use Rattle.checking.specs.Order.{starts_after, greatest_last, Below};
 
 use header::Header;
 use units::why::Why;
-use units::{BytePlace, CardVerdict, Lba, Place, Slot, why};
+use units::{BytePlace, Lba, Place, Reason, Slot, why};
 
 // Whether two headers are the same in all fields but the GUID and the sums.
 fn alike(h: Header, k: Header) -> bool
@@ -46,17 +45,15 @@ fn laid_fields(h: Header, len: usize, b: u64, back: bool) -> bool
 }
 
 // Whether n bytes at a place of one copy are those at a place of the other.
-fn same_in<'a>(one: &'a [u8], at: BytePlace, two: &'a [u8], other: BytePlace, n: usize) -> bool
+fn same_in(one: &[u8], at: BytePlace, two: &[u8], other: BytePlace, n: usize) -> bool
     requires { (at.0 + n ≤ length one.now) × (other.0 + n ≤ length two.now) }
     ensures { result ≡ same (part one.now at.0 n) (part two.now other.0 n) }
 {
-    let from = other.0;
-    units::inner::same_at(one, at.0, &two[from..from + n])
+    units::inner::same_at(one, at.0, &two[other.0..other.0 + n])
 }
 
 // The back array's sum: the front array's, where the two are the same.
-fn back_sum<'a>(t: &'a [u32; 4096], copy: &'a [u8], b: u64, agree: bool, sum: u32) -> u32
-    requires rows { Rows 16 t.now }
+fn back_sum(copy: &[u8], b: u64, agree: bool, sum: u32) -> u32
     requires copy_len { length copy.now ≡ b + 16384 }
     requires sum_value { agree ≡ true → sum ≡ crc (copy_in b Back copy.now).array }
     ensures { result ≡ crc (copy_in b Back copy.now).array }
@@ -64,19 +61,11 @@ fn back_sum<'a>(t: &'a [u32; 4096], copy: &'a [u8], b: u64, agree: bool, sum: u3
     if agree {
         return sum;
     }
-    tables::inner::array_sum(t, copy, b, true)
+    tables::inner::array_sum(copy, b, true)
 }
 
 // The number that refuses one table, whose array has a sum, or 0: 4 signature, 5 header sum, 16 layout, 6 array sum.
-pub fn copy_check<'a>(
-    t: &'a [u32; 4096],
-    copy: &'a [u8],
-    len: usize,
-    b: u64,
-    back: bool,
-    sum: u32,
-) -> u32
-    requires rows { Rows 16 t.now }
+pub fn copy_check(copy: &[u8], len: usize, b: u64, back: bool, sum: u32) -> u32
     requires len_value { ((room_check b len).number ≡ 0) × (length copy.now ≡ b + 16384) }
     requires sum_value { sum ≡ crc (copy_in b (side_of back) copy.now).array }
     ensures { result ≡ (table_check b len (side_of back) (copy_in b (side_of back) copy.now)).number }
@@ -86,7 +75,7 @@ pub fn copy_check<'a>(
         return why::INVALID_GPT_SIGNATURE;
     }
     let h = header::inner::header_at(copy, at.0);
-    if crc32::inner::header_sum_at(t, copy, at.0) != h.crc32 {
+    if crc32::inner::header_sum_at(copy, at.0) != h.crc32 {
         return why::INVALID_CRC32_CHECKSUM;
     }
     if !laid_fields(h, len, b, back) {
@@ -116,12 +105,10 @@ fn each_ok(img: &[u8], at: BytePlace, first: Lba, last: Lba) -> bool
     requires { at.0 + 16384 ≤ length img.now }
     ensures { (B n : ℕ) → first.0 ≡ first_usable_of B → last.0 ≡ last_usable_of B n → result ≡ all_ok B n (part img.now at.0 16384) }
 {
-    let mut k = 0;
-    while k < 128 {
+    for k in 0..128 {
         if !entry_ok(img, partition::inner::entry_place(at, k), first, last) {
             return false;
         }
-        k += 1;
     }
     true
 }
@@ -150,12 +137,10 @@ fn apart_below(img: &[u8], at: BytePlace, k: usize) -> bool
     }
     let first = partition::inner::first_at(img, own);
     let last = partition::inner::last_at(img, own);
-    let mut j = 0;
-    while j < k {
+    for j in 0..k {
         if overlaps(img, partition::inner::entry_place(at, j), first, last) {
             return false;
         }
-        j += 1;
     }
     true
 }
@@ -205,13 +190,11 @@ fn all_apart(img: &[u8], at: BytePlace) -> bool
     ensures { result ≡ all_apart (part img.now at.0 16384) }
 {
     let mut top = Lba(0);
-    let mut k = 0;
-    while k < 128 {
+    for k in 0..128 {
         if !apart_from(img, at, k, top) {
             return false;
         }
         top = greatest_last(img, partition::inner::entry_place(at, k), top);
-        k += 1;
     }
     true
 }
@@ -234,20 +217,18 @@ pub fn entries_ok(copy: &[u8], len: usize, b: u64, back: bool) -> bool
 }
 
 // The first slot whose 128 bytes differ in the two arrays; 129 where none does. The check asks only where the arrays differ.
-fn first_differing<'a>(front: &'a [u8], back: &'a [u8], b: u64) -> Slot
+fn first_differing(front: &[u8], back: &[u8], b: u64) -> Slot
     requires { (b ≤ 4096) × (length front.now ≡ b + 16384) × (length back.now ≡ b + 16384) }
     ensures { result ≡ record { 0 = differs (copy_in b Front front.now).array (copy_in b Back back.now).array + 1 } }
 {
     let array = tables::inner::array_in(b, false);
     let other = tables::inner::array_in(b, true);
-    let mut k = 0u32;
-    while k < 128 {
+    for k in 0..128u32 {
         let one = partition::inner::entry_place(array, k as usize);
         let two = partition::inner::entry_place(other, k as usize);
         if !same_in(front, one, back, two, 128) {
             return units::inner::slot_at(k);
         }
-        k += 1;
     }
     units::inner::slot_at(128)
 }
@@ -276,22 +257,15 @@ fn pair_check<'a>(front: &'a [u8], back: &'a [u8], agree: bool, len: usize, b: u
 }
 
 // The check of the two tables of a card that has room for them: what refuses a table is said with its side.
-pub fn copies_check<'a>(
-    t: &'a [u32; 4096],
-    front: &'a [u8],
-    back: &'a [u8],
-    len: usize,
-    b: u64,
-) -> Why
-    requires rows { Rows 16 t.now }
-    requires len_value { ((room_check b len).number ≡ 0) × (length front.now ≡ b + 16384) × (length back.now ≡ b + 16384) }
+pub fn copies_check(front: &[u8], back: &[u8], len: usize, b: u64) -> Why
+    requires { ((room_check b len).number ≡ 0) × (length front.now ≡ b + 16384) × (length back.now ≡ b + 16384) }
     ensures { result ≡ check b len (copies b front.now back.now) }
 {
     let array = tables::inner::array_in(b, false);
     let other = tables::inner::array_in(b, true);
     let agree = same_in(front, array, back, other, 16384);
-    let sum = tables::inner::array_sum(t, front, b, false);
-    let front_found = copy_check(t, front, len, b, false, sum);
+    let sum = tables::inner::array_sum(front, b, false);
+    let front_found = copy_check(front, len, b, false, sum);
     if front_found != 0 {
         return Why {
             number: front_found,
@@ -299,8 +273,8 @@ pub fn copies_check<'a>(
             place: Place::Front,
         };
     }
-    let other_sum = back_sum(t, back, b, agree, sum);
-    let back_found = copy_check(t, back, len, b, true, other_sum);
+    let other_sum = back_sum(back, b, agree, sum);
+    let back_found = copy_check(back, len, b, true, other_sum);
     if back_found != 0 {
         return Why {
             number: back_found,
@@ -311,9 +285,8 @@ pub fn copies_check<'a>(
     pair_check(front, back, agree, len, b)
 }
 
-// The check of an image, for the calls that it comes first in: they lend the check sum's table, and use it again.
-pub fn check_with<'a>(t: &'a [u32; 4096], img: &'a [u8], b: u64) -> Why
-    requires { Rows 16 t.now }
+// The check of an image, for the calls that it comes first in.
+pub fn check_with(img: &[u8], b: u64) -> Why
     ensures { result ≡ check b (length img.now) (tables b img.now) }
 {
     let len = img.len();
@@ -329,7 +302,6 @@ pub fn check_with<'a>(t: &'a [u32; 4096], img: &'a [u8], b: u64) -> Why
     let at = tables::inner::back_place(len, b);
     let from = at.0;
     copies_check(
-        t,
         &img[size..size + (size + 16384)],
         &img[from..from + (size + 16384)],
         len,
@@ -338,11 +310,10 @@ pub fn check_with<'a>(t: &'a [u32; 4096], img: &'a [u8], b: u64) -> Why
 }
 
 // 18 (bad slot) after the check: the tests of a call on one slot.
-pub fn slot_check<'a>(t: &'a [u32; 4096], img: &'a [u8], b: u64, slot: Slot) -> Why
-    requires { Rows 16 t.now }
+pub fn slot_check(img: &[u8], b: u64, slot: Slot) -> Why
     ensures { result ≡ slot_check b (length img.now) (tables b img.now) slot.0 }
 {
-    let found = check_with(t, img, b);
+    let found = check_with(img, b);
     if found.number != 0 {
         return found;
     }
@@ -353,10 +324,9 @@ pub fn slot_check<'a>(t: &'a [u32; 4096], img: &'a [u8], b: u64, slot: Slot) -> 
 }
 
 // The card check.
-pub fn check(img: &[u8], b: u64) -> CardVerdict
+pub fn check(img: &[u8], b: u64) -> Result<(), Reason>
     ensures { card_means result ≡ check_answer b img.now }
 {
-    let t = crc32::inner::table();
-    let found = check_with(&t, img, b);
+    let found = check_with(img, b);
     found.verdict()
 }

@@ -4,7 +4,8 @@
 // A reader and a writer are whatever `main` hands over, so that the contracts can say which bytes are read and written.
 #![tactic(auto)]
 
-ghost use Rattle.std.specs.Prelude.{◌≡◌, ◌≢◌, ◌↔◌, ◌<◌, ℕ, length, take, max, min, true, ◌⊎◌, IsTrue, IsFalse, IfErr, MatchResult};
+ghost use Rattle.std.specs.Prelude.{◌≡◌, ◌≢◌, ◌↔◌, ◌<◌, ◌≤◌, ℕ, length, take, max, min, true, ◌⊎◌, IsTrue, IsFalse, IfErr, IsOk, IsNone, Some, false, MatchResult};
+ghost use Rattle.console.specs.declared.Failure.TheVariants as Failure;
 ghost use Rattle.std.specs.Io.KnownBytes.{Appends, Consumes, IsAtEnd, ReadConsumes};
 ghost use Rattle.std.specs.Io.{ReadsAtMost};
 ghost use Rattle.std.specs.IoError.{error_kind};
@@ -12,6 +13,7 @@ ghost use Rattle.io.specs.Digits.{IsDigitCount, last_digits};
 ghost use Rattle.console.specs.Answers.{Writes};
 
 use std::env::{Env, FillError};
+use std::fmt;
 use std::io::{Error, ErrorKind, Read, Write};
 
 // Whether a read or a write only failed because a signal interrupted it.
@@ -42,6 +44,7 @@ pub fn read_piece<R: Read>(input: &mut R, buf: &mut [u8]) -> Result<usize, Error
 }
 
 // Reads the input until it ends or the buffer is full.
+// It stays a `while` for its clause `bytes`: std's `read_exact` does not say how many bytes came before the end or a failure.
 pub fn read_input<R: Read>(input: &mut R, buf: &mut [u8]) -> Result<usize, Error>
     ensures bound { ReadsAtMost result buf.new }
     ensures bytes { MatchResult result
@@ -62,6 +65,7 @@ pub fn read_input<R: Read>(input: &mut R, buf: &mut [u8]) -> Result<usize, Error
 }
 
 // Writes all bytes, and answers whether that went well. Where it did not, some of them may have been written.
+// It stays a loop for its clause: std's `write_all` does not promise that these are a part from the front.
 fn write_all<W: Write>(writer: &mut W, s: &[u8]) -> bool
     ensures { Writes (W.contents writer.old) true (W.contents writer.new) result s.now }
 {
@@ -81,6 +85,22 @@ fn write_all<W: Write>(writer: &mut W, s: &[u8]) -> bool
         }
     }
     false
+}
+
+// What failed: a read of the input, or a write of the output.
+#[derive(Clone, Copy, Debug, PartialEq, Eq)]
+pub enum Failure {
+    Input,
+    Output,
+}
+
+impl fmt::Display for Failure {
+    fn fmt<W: fmt::Write>(&self, f: &mut fmt::Formatter<W>) -> fmt::Result {
+        match self {
+            Failure::Input => write!(f, "cannot read the input"),
+            Failure::Output => write!(f, "cannot write the output"),
+        }
+    }
 }
 
 // Where a program writes, and whether all writes so far went well. After one that did not, nothing more is written.
@@ -105,6 +125,20 @@ impl<W: Write> Output<W> {
         self.ok
     }
 
+    // What a program has to say of itself once it has ended so: that a write failed, or else that a read did.
+    pub fn failure(&self, ended: &Result<(), Error>) -> Option<Failure>
+        ensures output { result ≡ Some Failure.Output ↔ (self.now.ok ≡ false) }
+        ensures none { IsNone result ↔ (self.now.ok ≡ true) × IsOk ended.now }
+    {
+        if !self.ok {
+            Some(Failure::Output)
+        } else if ended.is_err() {
+            Some(Failure::Input)
+        } else {
+            None
+        }
+    }
+
     // Writes bytes, unless an earlier write failed.
     pub fn text(&mut self, s: &[u8])
         ensures { Writes (W.contents self.old.writer) self.old.ok (W.contents self.new.writer) self.new.ok s.now }
@@ -115,6 +149,7 @@ impl<W: Write> Output<W> {
     }
 
     // The same of a number, in decimal digits.
+    // This and `hex` stay for their clauses: std's `write!` does not say what a failed write leaves of the digits.
     pub fn decimal(&mut self, n: u64)
         ensures { (k : ℕ) × IsDigitCount 10 1 n k
             × Writes (W.contents self.old.writer) self.old.ok (W.contents self.new.writer) self.new.ok (last_digits 10 k n) }
@@ -135,6 +170,39 @@ impl<W: Write> Output<W> {
     }
 }
 
+// Writes to an output, for `write!` and `writeln!`. After a failed write nothing more is written, and each call fails.
+impl<W: Write> Write for Output<W> {
+    ghost contents = { λ out. W.contents out.writer };
+
+    fn write(&mut self, s: &[u8]) -> Result<usize, Error> {
+        if !self.ok {
+            return Err(Error::from(ErrorKind::BrokenPipe));
+        }
+        match self.writer.write(s) {
+            Ok(n) => Ok(n),
+            Err(e) => {
+                self.ok = is_interrupted(&e);
+                Err(e)
+            }
+        }
+    }
+
+    fn flush(&mut self) -> Result<(), Error> {
+        self.writer.flush()
+    }
+
+    fn write_all(&mut self, s: &[u8]) -> Result<(), Error>
+        ensures written { Writes (W.contents self.old.writer) self.old.ok (W.contents self.new.writer) self.new.ok s.now }
+        ensures told { IsOk result ↔ (self.new.ok ≡ true) }
+    {
+        self.text(s);
+        if !self.ok {
+            return Err(Error::from(ErrorKind::BrokenPipe));
+        }
+        Ok(())
+    }
+}
+
 // Writes a line to standard error. Where that fails too, nothing is left to say it on.
 pub fn complain<W: Write>(errors: &mut W, line: &[u8])
     ensures { (n : ℕ) × Appends (W.contents errors.old) (W.contents errors.new) (take n line.now) }
@@ -144,19 +212,13 @@ pub fn complain<W: Write>(errors: &mut W, line: &[u8])
 
 // Whether there is an argument with this number. Number 0 is the program's own name.
 fn has_argument<E: Env>(env: &E, i: usize) -> bool {
-    match env.arg(i, &mut []) {
-        Err(FillError::NotPresent) => false,
-        _ => true,
-    }
+    !matches!(env.arg(i, &mut []), Err(FillError::NotPresent))
 }
 
 // Whether the first argument is `--help`.
 fn is_help<E: Env>(env: &E) -> bool {
     let mut word = [0u8; 6];
-    match env.arg(1, &mut word) {
-        Ok(n) => n == 6 && word == *b"--help",
-        Err(_) => false,
-    }
+    matches!(env.arg(1, &mut word), Ok(6)) && word == *b"--help"
 }
 
 // Whether a program that takes no arguments was given none. If it was given any, its usage line is written: to standard output for `--help` alone, else to standard error.

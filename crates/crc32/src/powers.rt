@@ -1,6 +1,6 @@
 // The powers of x that carry a register over runs of zero. They stand in a file of their own for their length alone.
 // POWERS[k] is x^(1024·k) mod P: multiplying by it feeds k times 128 zero bytes.
-pub const POWERS: [u32; 129] = [
+pub static POWERS: [u32; 129] = [
     0x80000000, 0xd7bbfe6a, 0xec447f11, 0xb72d2b3c, 0x8e7ea170, 0x7e91368a, 0x05616c82, 0x3277f3e0,
     0x6427800e, 0xb1436b58, 0x5ef840e2, 0xb3a2be1c, 0xbf110f7e, 0x3ea21cf9, 0x118f848e, 0x34163bd1,
     0x4d47bae0, 0x913d3ab9, 0xa84bdc84, 0x81b96886, 0x0b19ae7f, 0x9a48a5c8, 0xaf5619bc, 0x7dfa90f7,

@@ -3,19 +3,11 @@
 ghost use Rattle.std.specs.Prelude.{◌≡◌, true, ℕ, ◌+◌, ◌*◌, ◌≤◌, ◌<◌, length, replicate};
 ghost use Rattle.units.specs.Bytes.{part, all_zero};
 ghost use Rattle.crc32.specs.Crc.{feed};
-ghost use Rattle.crc32.specs.Rows.{Rows, Chunks};
 
 use crate::powers::POWERS;
 use crate::{carry, inner};
 
-// The constants, with their rule.
-fn powers() -> [u32; 129]
-    ensures { Chunks 129 result }
-{
-    POWERS
-}
-
-// The register x after n chunks of zero, of 128 bytes each. A constant array is copied where it is taken, so it is taken here, behind the test: bytes without such a run pay nothing for it.
+// The register x after n chunks of zero, of 128 bytes each.
 fn past(x: u32, n: usize) -> u32
     requires { n ≤ 128 }
     ensures { result ≡ feed x (replicate (128 * n) 0) }
@@ -23,8 +15,7 @@ fn past(x: u32, n: usize) -> u32
     if n == 0 {
         return x;
     }
-    let p = powers();
-    carry::carried(p[n], x)
+    carry::carried(POWERS[n], x)
 }
 
 // How many chunks from a place on are zero, 128 at most. The first `from` of them are known to be; the others are looked at `step` at a time.
@@ -87,8 +78,7 @@ fn used_end(s: &[u8], at: usize) -> usize
 }
 
 // The register r after the bytes of s: some as they are and then the run of zeros behind them, again and again.
-pub fn run<'a>(t: &'a [u32; 4096], r: u32, s: &'a [u8]) -> u32
-    requires { Rows 16 t.now }
+pub fn run(r: u32, s: &[u8]) -> u32
     ensures { result ≡ feed r s.now }
 {
     let mut x = r;
@@ -96,7 +86,7 @@ pub fn run<'a>(t: &'a [u32; 4096], r: u32, s: &'a [u8]) -> u32
     while i < s.len() {
         let e = used_end(s, i);
         let n = zero_chunks(s, e);
-        x = past(inner::run(t, x, &s[i..e]), n);
+        x = past(inner::run(x, &s[i..e]), n);
         i = e + 128 * n;
     }
     x

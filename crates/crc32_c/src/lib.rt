@@ -14,10 +14,10 @@ pub extern "C" fn rt_header_sum(h: &[u8]) -> u32
     if h.len() < 92 {
         return 0;
     }
-    inner::header_sum_once(h, 0)
+    inner::header_sum_at(h, 0)
 }
 
-// n header sums over one lent table, xored: at each place of s in turn, so that no two sums in a row are the same. For the measurement alone.
+// n header sums, xored: at each place of s in turn, so that no two sums in a row are the same. For the measurement alone.
 #[unsafe(no_mangle)]
 pub extern "C" fn rt_header_sums(s: &[u8], n: u32) -> u32
     ensures { result ≡ exported_sums s.now n }
@@ -25,12 +25,11 @@ pub extern "C" fn rt_header_sums(s: &[u8], n: u32) -> u32
     if s.len() < 92 {
         return 0;
     }
-    let t = inner::table();
     let mut sum: u32 = 0;
     let mut at: usize = 0;
     let mut i: u32 = 0;
     while i < n {
-        sum ^= inner::header_sum_at(&t, s, at);
+        sum ^= inner::header_sum_at(s, at);
         at = following(at, s.len());
         i += 1;
     }

@@ -3,37 +3,35 @@
 #![tactic(auto)]
 
 ghost use Rattle.std.specs.Prelude.{◌≡◌};
-ghost use Rattle.units.specs.Meanings.{block_means};
+ghost use Rattle.units.specs.Meanings.{means};
 ghost use Rattle.header.specs.Reading.{primary_read, backup_read, backup_block};
 ghost use Rattle.header.specs.Writing.{parts_sum};
-ghost use Rattle.header.specs.Meanings.{read_means, sum_means};
 ghost use Rattle.builder.specs.Building.{new_builder, of_header, with_primary, with_disk_guid, with_backup_lba, with_first_usable, with_last_usable, with_num_parts, with_part_size, built};
-ghost use Rattle.builder.specs.Meanings.{built_means};
 
-use builder::{HeaderBuilder, HeaderBuilt};
-use header::{Header, HeaderRead, Revision, SumFound};
-use units::{BlockFound, Guid, Lba, Refusal};
+use builder::HeaderBuilder;
+use header::{Header, Revision};
+use units::{Guid, Lba, Refusal};
 
-pub fn read_primary_header(img: &[u8], b: u64) -> HeaderRead
-    ensures { read_means result ≡ primary_read img.now b }
+pub fn read_primary_header(img: &[u8], b: u64) -> Result<Header, Refusal>
+    ensures { means result ≡ primary_read img.now b }
 {
     header::read_primary_header(img, b)
 }
 
-pub fn find_backup_lba(len: usize, b: u64) -> BlockFound
-    ensures { block_means result ≡ backup_block len b }
+pub fn find_backup_lba(len: usize, b: u64) -> Result<Lba, Refusal>
+    ensures { means result ≡ backup_block len b }
 {
     header::find_backup_lba(len, b)
 }
 
-pub fn read_backup_header(img: &[u8], b: u64) -> HeaderRead
-    ensures { read_means result ≡ backup_read img.now b }
+pub fn read_backup_header(img: &[u8], b: u64) -> Result<Header, Refusal>
+    ensures { means result ≡ backup_read img.now b }
 {
     header::read_backup_header(img, b)
 }
 
-pub fn partentry_checksum(h: Header, img: &[u8], b: u64) -> SumFound
-    ensures { sum_means result ≡ parts_sum img.now h b }
+pub fn partentry_checksum(h: Header, img: &[u8], b: u64) -> Result<u32, Refusal>
+    ensures { means result ≡ parts_sum img.now h b }
 {
     h.partentry_checksum(img, b)
 }
@@ -92,8 +90,8 @@ pub fn with_part_size(s: HeaderBuilder, part_size: u32) -> HeaderBuilder
     s.with_part_size(part_size)
 }
 
-pub fn build(s: HeaderBuilder, b: u64) -> HeaderBuilt
-    ensures { built_means result ≡ built s b }
+pub fn build(s: HeaderBuilder, b: u64) -> Result<Header, Refusal>
+    ensures { means result ≡ built s b }
 {
     s.build(b)
 }

@@ -8,31 +8,31 @@ ghost use Rattle.units.specs.Meanings.{card_means};
 ghost use Rattle.label.specs.Labels.{label_in};
 ghost use Rattle.label.specs.Calls.{read_label_answer, write_label_outcome};
 ghost use Rattle.label.specs.Judging.{judge_answer};
-ghost use Rattle.label.specs.Meanings.{label_means, judged_means};
+ghost use Rattle.label.specs.Meanings.{judged_means};
 ghost use Rattle.windows_label.specs.Handed.{handed_label, handed_set};
 
-use label::{Dated, Judged, Label, LabelRead};
-use units::{CardVerdict, Place, Reason, Refusal, Slot};
+use label::{Dated, Label, SetRefusal};
+use units::{Place, Reason, Refusal, Slot};
 
-pub fn label_in(bytes: &[u8]) -> LabelRead
-    ensures { label_means result ≡ label_in bytes.now }
+pub fn label_in(bytes: &[u8]) -> Result<Label, Reason>
+    ensures { card_means result ≡ label_in bytes.now }
 {
     label::label_in(bytes)
 }
 
-pub fn read_label(img: &[u8], b: u64, slot: Slot) -> LabelRead
-    ensures { label_means result ≡ read_label_answer b img.now slot.0 }
+pub fn read_label(img: &[u8], b: u64, slot: Slot) -> Result<Label, Reason>
+    ensures { card_means result ≡ read_label_answer b img.now slot.0 }
 {
     label::read_label(img, b, slot)
 }
 
-pub fn write_label(img: &mut [u8], b: u64, slot: Slot, label: Label) -> CardVerdict
+pub fn write_label(img: &mut [u8], b: u64, slot: Slot, label: Label) -> Result<(), Reason>
     ensures { Ends (write_label_outcome b img.old slot.0 label) (card_means result) img.new }
 {
     label::write_label(img, b, slot, label)
 }
 
-pub fn judge<'a>(img: &'a [u8], b: u64, slots: &'a [u32]) -> Judged
+pub fn judge<'a>(img: &'a [u8], b: u64, slots: &'a [u32]) -> Result<Dated, SetRefusal>
     ensures { judged_means result ≡ judge_answer b img.now slots.now }
 {
     label::judge(img, b, slots)
@@ -45,8 +45,8 @@ pub fn handed_label<'a>(
     b: u64,
     slot: Slot,
     bytes: &'a [u8],
-) -> LabelRead
-    ensures { label_means result ≡ handed_label b blocks head.now tail.now slot.0 bytes.now }
+) -> Result<Label, Reason>
+    ensures { card_means result ≡ handed_label b blocks head.now tail.now slot.0 bytes.now }
 {
     windows_label::read_label(head, tail, blocks, b, slot, bytes)
 }
@@ -58,7 +58,7 @@ pub fn handed_judge<'a>(
     b: u64,
     slots: &'a [u32],
     labels: &'a [u8],
-) -> Judged
+) -> Result<Dated, SetRefusal>
     ensures { judged_means result ≡ handed_set b blocks head.now tail.now slots.now labels.now }
 {
     windows_label::judge(head, tail, blocks, b, slots, labels)

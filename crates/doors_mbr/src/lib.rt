@@ -2,14 +2,14 @@
 // Nobody calls them. They are there to be changed: each edit under must-fail puts an impostor behind a door, and the door's contract must refuse it.
 #![tactic(auto)]
 
+ghost use Rattle.units.specs.Meanings.{means};
 ghost use Rattle.std.specs.Prelude.{◌≡◌};
 ghost use Rattle.mbr.specs.Format.{record_bytes, mbr_bytes, protective, zero_record, fresh};
-ghost use Rattle.mbr.specs.Parsing.{record_parsed, mbr_parsed, image_parsed, parsed_of, bytes_read, bytes_of};
-ghost use Rattle.mbr.specs.Changing.{with_bootcode, with_signature, record_taken, record_set, set_of};
-ghost use Rattle.mbr.specs.Meanings.{record_means, mbr_means, set_means, bootcode_means, signature_means};
+ghost use Rattle.mbr.specs.Parsing.{record_parsed, mbr_parsed, image_parsed, bytes_read};
+ghost use Rattle.mbr.specs.Changing.{with_bootcode, with_signature, record_taken, record_set};
 
-use mbr::{BootcodeRead, MbrRead, PartRecord, ProtectiveMbr, RecordRead, RecordSet, SignatureRead};
-use units::{Refusal, Verdict};
+use mbr::{Changed, PartRecord, ProtectiveMbr};
+use units::Refusal;
 
 pub fn new_protective(lb_size: u32) -> PartRecord
     ensures { result ≡ protective lb_size }
@@ -23,8 +23,8 @@ pub fn zero() -> PartRecord
     PartRecord::zero()
 }
 
-pub fn record_from_bytes(buf: &[u8]) -> RecordRead
-    ensures { record_means result ≡ record_parsed buf.now }
+pub fn record_from_bytes(buf: &[u8]) -> Result<PartRecord, Refusal>
+    ensures { means result ≡ record_parsed buf.now }
 {
     PartRecord::from_bytes(buf)
 }
@@ -47,14 +47,14 @@ pub fn with_lb_size(lb_size: u32) -> ProtectiveMbr
     ProtectiveMbr::with_lb_size(lb_size)
 }
 
-pub fn from_bytes(buf: &[u8], b: u64) -> MbrRead
-    ensures { mbr_means result ≡ parsed_of (mbr_parsed buf.now b) }
+pub fn from_bytes(buf: &[u8], b: u64) -> Result<ProtectiveMbr, Refusal>
+    ensures { means result ≡ mbr_parsed buf.now b }
 {
     ProtectiveMbr::from_bytes(buf, b)
 }
 
-pub fn from_image(img: &[u8], b: u64) -> MbrRead
-    ensures { mbr_means result ≡ parsed_of (image_parsed img.now b) }
+pub fn from_image(img: &[u8], b: u64) -> Result<ProtectiveMbr, Refusal>
+    ensures { means result ≡ image_parsed img.now b }
 {
     ProtectiveMbr::from_image(img, b)
 }
@@ -89,26 +89,30 @@ pub fn set_disk_signature(m: ProtectiveMbr, disk_signature: [u8; 4]) -> Protecti
     m.set_disk_signature(disk_signature)
 }
 
-pub fn partition(m: ProtectiveMbr, place: usize) -> RecordRead
-    ensures { record_means result ≡ record_taken m place }
+pub fn partition(m: ProtectiveMbr, place: usize) -> Result<PartRecord, Refusal>
+    ensures { means result ≡ record_taken m place }
 {
     m.partition(place)
 }
 
-pub fn set_partition(m: ProtectiveMbr, place: usize, partition: PartRecord) -> RecordSet
-    ensures { set_means result ≡ set_of m (record_set m place partition) }
+pub fn set_partition(
+    m: ProtectiveMbr,
+    place: usize,
+    partition: PartRecord,
+) -> Result<Changed, Refusal>
+    ensures { means result ≡ record_set m place partition }
 {
     m.set_partition(place, partition)
 }
 
-pub fn read_bootcode(img: &[u8]) -> BootcodeRead
-    ensures { bootcode_means result ≡ bytes_of 440 (bytes_read img.now 0 440) }
+pub fn read_bootcode(img: &[u8]) -> Result<[u8; 440], Refusal>
+    ensures { means result ≡ bytes_read img.now 0 440 }
 {
     mbr::read_bootcode(img)
 }
 
-pub fn read_disk_signature(img: &[u8]) -> SignatureRead
-    ensures { signature_means result ≡ bytes_of 4 (bytes_read img.now 440 4) }
+pub fn read_disk_signature(img: &[u8]) -> Result<[u8; 4], Refusal>
+    ensures { means result ≡ bytes_read img.now 440 4 }
 {
     mbr::read_disk_signature(img)
 }

@@ -5,67 +5,66 @@
 ghost use Rattle.units.specs.Answer.{Ends};
 ghost use Rattle.units.specs.Numbers.{bytes_in, value_in, number_stored};
 ghost use Rattle.units.specs.Guids.{guid_stored};
-ghost use Rattle.units.specs.Meanings.{stored_means, verdict_means};
+ghost use Rattle.units.specs.Meanings.{means};
 ghost use Rattle.header.specs.Writing.{primary_written, backup_written};
-ghost use Rattle.header.specs.Meanings.{written_means};
 ghost use Rattle.mbr.specs.Storing.{whole_stored, tail_stored, bytes_stored};
 ghost use Rattle.partition.specs.Device.{entry_written, entry_stored, zeros_stored};
 
-use header::{Header, HeaderWritten};
+use header::{Header, Written};
 use mbr::ProtectiveMbr;
 use partition::Partition;
-use units::{BytePlace, Guid, Lba, Number, Refusal, Stored, Verdict};
+use units::{BytePlace, Guid, Lba, Number, Refusal};
 
-pub fn store_number(s: &mut [u8], at: BytePlace, x: Number) -> Stored
-    ensures { Ends (number_stored s.old at.0 (bytes_in x) (value_in x)) (stored_means result) s.new }
+pub fn store_number(s: &mut [u8], at: BytePlace, x: Number) -> Result<usize, Refusal>
+    ensures { Ends (number_stored s.old at.0 (bytes_in x) (value_in x)) (means result) s.new }
 {
     units::store_number(s, at, x)
 }
 
-pub fn store_guid(s: &mut [u8], at: BytePlace, g: Guid) -> Stored
-    ensures { Ends (guid_stored s.old at.0 g) (stored_means result) s.new }
+pub fn store_guid(s: &mut [u8], at: BytePlace, g: Guid) -> Result<usize, Refusal>
+    ensures { Ends (guid_stored s.old at.0 g) (means result) s.new }
 {
     units::store_guid(s, at, g)
 }
 
-pub fn write_primary(h: Header, img: &mut [u8], b: u64) -> HeaderWritten
-    ensures { Ends (primary_written img.old h b) (written_means result) img.new }
+pub fn write_primary(h: Header, img: &mut [u8], b: u64) -> Result<Written, Refusal>
+    ensures { Ends (primary_written img.old h b) (means result) img.new }
 {
     h.write_primary(img, b)
 }
 
-pub fn write_backup(h: Header, img: &mut [u8], b: u64) -> HeaderWritten
-    ensures { Ends (backup_written img.old h b) (written_means result) img.new }
+pub fn write_backup(h: Header, img: &mut [u8], b: u64) -> Result<Written, Refusal>
+    ensures { Ends (backup_written img.old h b) (means result) img.new }
 {
     h.write_backup(img, b)
 }
 
-pub fn overwrite_lba0(m: ProtectiveMbr, img: &mut [u8]) -> Stored
-    ensures { Ends (whole_stored img.old m) (stored_means result) img.new }
+pub fn overwrite_lba0(m: ProtectiveMbr, img: &mut [u8]) -> Result<usize, Refusal>
+    ensures { Ends (whole_stored img.old m) (means result) img.new }
 {
     m.overwrite_lba0(img)
 }
 
-pub fn update_conservative(m: ProtectiveMbr, img: &mut [u8]) -> Stored
-    ensures { Ends (tail_stored img.old m) (stored_means result) img.new }
+pub fn update_conservative(m: ProtectiveMbr, img: &mut [u8]) -> Result<usize, Refusal>
+    ensures { Ends (tail_stored img.old m) (means result) img.new }
 {
     m.update_conservative(img)
 }
 
-pub fn write_bootcode(img: &mut [u8], bootcode: &[u8; 440]) -> Stored
-    ensures { Ends (bytes_stored img.old 0 bootcode.now) (stored_means result) img.new }
+pub fn write_bootcode(img: &mut [u8], bootcode: &[u8; 440]) -> Result<usize, Refusal>
+    ensures { Ends (bytes_stored img.old 0 bootcode.now) (means result) img.new }
 {
     mbr::write_bootcode(img, bootcode)
 }
 
-pub fn write_disk_signature(img: &mut [u8], disk_signature: &[u8; 4]) -> Stored
-    ensures { Ends (bytes_stored img.old 440 disk_signature.now) (stored_means result) img.new }
+pub fn write_disk_signature(img: &mut [u8], disk_signature: &[u8; 4]) -> Result<usize, Refusal>
+    ensures { Ends (bytes_stored img.old 440 disk_signature.now) (means result) img.new }
 {
     mbr::write_disk_signature(img, disk_signature)
 }
 
-pub fn write_bytes(p: Partition, out: &mut [u8]) -> Verdict
-    ensures { Ends (entry_written out.old p) (verdict_means result) out.new }
+pub fn write_bytes(p: Partition, out: &mut [u8]) -> Result<(), Refusal>
+    ensures { Ends (entry_written out.old p) (means result) out.new }
 {
     p.write_bytes(out)
 }
@@ -77,8 +76,8 @@ pub fn write_to_device(
     start: Lba,
     b: u64,
     entry_size: u32,
-) -> Stored
-    ensures { Ends (entry_stored img.old p index start.0 b entry_size) (stored_means result) img.new }
+) -> Result<usize, Refusal>
+    ensures { Ends (entry_stored img.old p index start.0 b entry_size) (means result) img.new }
 {
     p.write_to_device(img, index, start, b, entry_size)
 }
@@ -90,8 +89,8 @@ pub fn write_zero_entries_to_device(
     start: Lba,
     b: u64,
     entry_size: u32,
-) -> Stored
-    ensures { Ends (zeros_stored img.old index count start.0 b entry_size) (stored_means result) img.new }
+) -> Result<usize, Refusal>
+    ensures { Ends (zeros_stored img.old index count start.0 b entry_size) (means result) img.new }
 {
     Partition::write_zero_entries_to_device(img, index, count, start, b, entry_size)
 }

@@ -4,7 +4,7 @@
 
 ghost use Rattle.std.specs.Prelude.{◌≡◌};
 ghost use Rattle.units.specs.Answer.{Ends};
-ghost use Rattle.units.specs.Meanings.{stored_means};
+ghost use Rattle.units.specs.Meanings.{means};
 ghost use Rattle.text.specs.Texts.{text_stored};
 ghost use Rattle.guid_text.specs.GuidTexts.{text_of_guid, guid_of_text};
 ghost use Rattle.message.specs.Words.{message_text};
@@ -12,22 +12,22 @@ ghost use Rattle.names.specs.NameTexts.{name_text, name_of_text};
 
 use guid_text::GuidOfText;
 use names::NameOfText;
-use units::{Guid, Stored};
+use units::{Guid, Refusal};
 
-pub fn deliver(out: &mut [u8], words: &[u8]) -> Stored
-    ensures { Ends (text_stored out.old words.now) (stored_means result) out.new }
+pub fn deliver(out: &mut [u8], words: &[u8]) -> Result<usize, Refusal>
+    ensures { Ends (text_stored out.old words.now) (means result) out.new }
 {
     text::deliver(out, words)
 }
 
-pub fn message(out: &mut [u8], number: u32, place: u32, slot: u32) -> Stored
-    ensures { Ends (text_stored out.old (message_text number place slot)) (stored_means result) out.new }
+pub fn message(out: &mut [u8], number: u32, place: u32, slot: u32) -> Result<usize, Refusal>
+    ensures { Ends (text_stored out.old (message_text number place slot)) (means result) out.new }
 {
     message::message(out, number, place, slot)
 }
 
-pub fn guid_to_text(out: &mut [u8], guid: Guid) -> Stored
-    ensures { Ends (text_stored out.old (text_of_guid guid)) (stored_means result) out.new }
+pub fn guid_to_text(out: &mut [u8], guid: Guid) -> Result<usize, Refusal>
+    ensures { Ends (text_stored out.old (text_of_guid guid)) (means result) out.new }
 {
     guid_text::guid_to_text(out, guid)
 }
@@ -38,8 +38,8 @@ pub fn guid_from_text(text: &[u8]) -> GuidOfText
     guid_text::guid_from_text(text)
 }
 
-pub fn name_to_utf8(out: &mut [u8], name: &[u16]) -> Stored
-    ensures { Ends (text_stored out.old (name_text name.now)) (stored_means result) out.new }
+pub fn name_to_utf8(out: &mut [u8], name: &[u16]) -> Result<usize, Refusal>
+    ensures { Ends (text_stored out.old (name_text name.now)) (means result) out.new }
 {
     names::name_to_utf8(out, name)
 }

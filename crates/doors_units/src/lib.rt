@@ -7,17 +7,12 @@ ghost use Rattle.units.specs.Refusals.{number};
 ghost use Rattle.units.specs.Places.{good_size, inside, place_of, place_after, block_of, array_place_of, slot_of};
 ghost use Rattle.units.specs.Numbers.{width_of, number_read};
 ghost use Rattle.units.specs.Guids.{guid_read, is_nil, nil_guid};
-ghost use Rattle.units.specs.Meanings.{placed_means, block_means, array_place_means, slot_means, number_means, guid_means};
+ghost use Rattle.units.specs.Meanings.{means};
 ghost use Rattle.crc32.specs.Crc.{crc_from, crc};
 ghost use Rattle.crc32.specs.HeaderSum.{header_sum};
-ghost use Rattle.header.specs.Meanings.{sum_means};
 ghost use Rattle.slot_sum.specs.SlotSum.{slot_sum};
 
-use header::SumFound;
-use units::{
-    ArrayPlace, BlockFound, BytePlace, Guid, GuidRead, Lba, NumberRead, Placed, Refusal, Slot,
-    SlotFound, Width,
-};
+use units::{BytePlace, Guid, Lba, Refusal, Slot, Width};
 
 pub fn refusal_number(w: Refusal) -> u32
     ensures { result ≡ number w }
@@ -37,38 +32,38 @@ pub fn is_inside(len: usize, at: BytePlace, n: usize) -> bool
     units::is_inside(len, at, n)
 }
 
-pub fn block_place(lba: Lba, b: u64) -> Placed
-    ensures { placed_means result ≡ place_of lba.0 b }
+pub fn block_place(lba: Lba, b: u64) -> Result<BytePlace, Refusal>
+    ensures { means result ≡ place_of lba.0 b }
 {
     lba.place(b)
 }
 
-pub fn place_after(at: BytePlace, n: usize) -> Placed
-    ensures { placed_means result ≡ place_after at.0 n }
+pub fn place_after(at: BytePlace, n: usize) -> Result<BytePlace, Refusal>
+    ensures { means result ≡ place_after at.0 n }
 {
     at.after(n)
 }
 
-pub fn place_block(at: BytePlace, b: u64) -> BlockFound
-    ensures { block_means result ≡ block_of at.0 b }
+pub fn place_block(at: BytePlace, b: u64) -> Result<Lba, Refusal>
+    ensures { means result ≡ block_of at.0 b }
 {
     at.block(b)
 }
 
-pub fn array_place(slot: Slot, count: u32) -> ArrayPlace
-    ensures { array_place_means result ≡ array_place_of slot.0 count }
+pub fn array_place(slot: Slot, count: u32) -> Result<u32, Refusal>
+    ensures { means result ≡ array_place_of slot.0 count }
 {
     slot.array_place(count)
 }
 
-pub fn at_array_place(place: u32, count: u32) -> SlotFound
-    ensures { slot_means result ≡ slot_of place count }
+pub fn at_array_place(place: u32, count: u32) -> Result<Slot, Refusal>
+    ensures { means result ≡ slot_of place count }
 {
     Slot::at_array_place(place, count)
 }
 
-pub fn read_number(s: &[u8], at: BytePlace, width: Width) -> NumberRead
-    ensures { number_means result ≡ number_read s.now at.0 (width_of width) }
+pub fn read_number(s: &[u8], at: BytePlace, width: Width) -> Result<u64, Refusal>
+    ensures { means result ≡ number_read s.now at.0 (width_of width) }
 {
     units::read_number(s, at, width)
 }
@@ -85,8 +80,8 @@ pub fn is_nil(g: Guid) -> bool
     g.is_nil()
 }
 
-pub fn read_guid(s: &[u8], at: BytePlace) -> GuidRead
-    ensures { guid_means result ≡ guid_read s.now at.0 }
+pub fn read_guid(s: &[u8], at: BytePlace) -> Result<Guid, Refusal>
+    ensures { means result ≡ guid_read s.now at.0 }
 {
     units::read_guid(s, at)
 }
@@ -109,8 +104,8 @@ pub fn header_sum(h: &[u8; 92]) -> u32
     crc32::header_sum(h)
 }
 
-pub fn slot_sum<'a>(sum: u32, old: &'a [u8], new: &'a [u8], after: usize) -> SumFound
-    ensures { sum_means result ≡ slot_sum sum old.now new.now after }
+pub fn slot_sum<'a>(sum: u32, old: &'a [u8], new: &'a [u8], after: usize) -> Result<u32, Refusal>
+    ensures { means result ≡ slot_sum sum old.now new.now after }
 {
     slot_sum::slot_sum(sum, old, new, after)
 }

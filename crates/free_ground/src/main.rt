@@ -6,86 +6,66 @@
 ghost use Rattle.std.specs.Prelude.{ℕ, ◌+◌, ◌^◌, ◌≤◌, ◌<◌, length, get_or};
 
 use console::Output;
-use ground::RunCount;
+use std::io;
 use std::io::{Read, Write};
 
-// A word, a number and the end of the line.
-fn say(word: &[u8], n: u64, out: &mut Output<impl Write>) {
-    out.text(word);
-    out.decimal(n);
-    out.text(b"\n");
-}
+const USAGE: &str =
+    "usage: free_ground < IMAGE (blocks of 512 bytes, 65,536 bytes at most; the exit status is always 0, so read what is printed)\n";
+
+// How many bytes the longest image has.
+const LONGEST: usize = 65536;
 
 // A run's line: its first and last block, and how many blocks it has.
-fn print_run(start: u64, blocks: u64, out: &mut Output<impl Write>)
+fn print_run(start: u64, blocks: u64, out: &mut impl Write) -> io::Result<()>
     requires { (0 < blocks) × (start + blocks < 2 ^ 64) }
 {
-    out.decimal(start);
-    out.text(b" ");
-    out.decimal(start + blocks - 1);
-    say(b" ", blocks, out);
+    let last = start + blocks - 1;
+    writeln!(out, "{start} {last} {blocks}")
 }
 
 // The lines of the n runs in both rows.
-fn print_runs<'a>(starts: &'a [u64], lengths: &'a [u64], n: usize, out: &mut Output<impl Write>)
+fn print_runs(starts: &[u64], lengths: &[u64], n: usize, out: &mut impl Write) -> io::Result<()>
     requires n_in_bounds { (n ≤ length starts.now) × (n ≤ length lengths.now) }
     requires by_index { (k : ℕ) → k < n → (0 < get_or lengths.now k 0) × (get_or starts.now k 0 + get_or lengths.now k 0 < 2 ^ 64) }
 {
-    for i in 0..n {
-        print_run(starts[i], lengths[i], out);
+    for (start, blocks) in starts[..n].iter().zip(&lengths[..n]) {
+        print_run(*start, *blocks, out)?;
     }
+    Ok(())
 }
 
 // The card's runs, in rows of 129 places, which always do.
-fn list(img: &[u8], out: &mut Output<impl Write>) {
+fn list(img: &[u8], out: &mut impl Write) -> io::Result<()> {
     let mut starts: [u64; 129] = [0; 129];
     let mut lengths: [u64; 129] = [0; 129];
     match ground::free_runs(img, 512, &mut starts, &mut lengths) {
-        RunCount::Refused(w) => {
-            let what = w.what;
-            say(b"refused ", what.number() as u64, out)
-        }
-        RunCount::Runs(n) => {
-            out.text(b"first last blocks\n");
-            print_runs(&starts, &lengths, n as usize, out);
-            say(b"runs ", n as u64, out);
+        Err(w) => writeln!(out, "refused {}", w.what.number()),
+        Ok(n) => {
+            writeln!(out, "first last blocks")?;
+            print_runs(&starts, &lengths, n as usize, out)?;
+            writeln!(out, "runs {n}")
         }
     }
-}
-
-// One byte more than the longest image.
-fn space() -> [u8; 65537] {
-    [0; 65537]
 }
 
 // Reads the image to its end before anything is printed.
-fn run(input: &mut impl Read, out: &mut Output<impl Write>, errors: &mut impl Write) {
-    let mut buf = space();
-    match console::read_input(input, &mut buf) {
-        Err(_) => console::complain(errors, b"free_ground: cannot read the input\n"),
-        Ok(n) => {
-            if 65536 < n {
-                out.text(b"too long\n");
-            } else {
-                list(&buf[..n], out);
-            }
-        }
+fn run(rt: &HostRuntime, out: &mut Output<io::Stdout>) -> io::Result<()> {
+    if !console::no_arguments(rt, USAGE.as_bytes(), out, &mut rt.stderr()) {
+        return Ok(());
     }
+    let mut image = Vec::new(rt.alloc());
+    rt.stdin().take(LONGEST as u64 + 1).read_to_end(&mut image)?;
+    if image.len() > LONGEST {
+        return writeln!(out, "too long");
+    }
+    list(&image, out)
 }
 
 // The exit status is always 0, as the usage line says.
 fn main(rt: HostRuntime) {
     let mut out = Output::new(rt.stdout());
-    let mut errors = rt.stderr();
-    if console::no_arguments(
-        &rt,
-        b"usage: free_ground < IMAGE (blocks of 512 bytes, 65,536 bytes at most; the exit status is always 0, so read what is printed)\n",
-        &mut out,
-        &mut errors,
-    ) {
-        run(&mut rt.stdin(), &mut out, &mut errors);
-    }
-    if !out.is_ok() {
-        console::complain(&mut errors, b"free_ground: cannot write the output\n");
+    let ended = run(&rt, &mut out);
+    if let Some(failure) = out.failure(&ended) {
+        let _ = eprintln!(rt; "free_ground: {failure}");
     }
 }

@@ -3,16 +3,16 @@ use Rattle.std.specs.Prelude.{true, List, [], ◌∷◌, ℕ, ltb, length, repli
 use Rattle.units.specs.declared.Lba.{Lba}
 use Rattle.units.specs.declared.BytePlace.{BytePlace}
 use Rattle.units.specs.declared.Guid.{Guid}
-use Rattle.units.specs.Answer.{Answer, accepted, refuse, pick, and_then, Beside}
+use Rattle.units.specs.Answer.{Answer, accepted, refuse, pick}
 use Rattle.units.specs.Guids.{nil_guid}
 use Rattle.header.specs.declared.Header.{Header}
-use Rattle.header.specs.Writing.{Written}
+use Rattle.header.specs.declared.Written.{Written}
 use Rattle.builder.specs.declared.HeaderBuilder.{HeaderBuilder}
 use Rattle.builder.specs.Building.{new_builder, with_primary, with_backup_lba, with_first_usable, with_last_usable, with_num_parts, with_part_size}
 use Rattle.mbr.specs.declared.PartRecord.{PartRecord}
 use Rattle.mbr.specs.declared.ProtectiveMbr.{ProtectiveMbr}
 use Rattle.mbr.specs.Format.{zero_record}
-use Rattle.mbr.specs.Changing.{Changed}
+use Rattle.mbr.specs.declared.Changed.{Changed}
 use Rattle.partition.specs.declared.Partition.{Partition}
 use Rattle.partition.specs.Format.{entry_at, zero_partition}
 use Rattle.answers_c.specs.Crossing.{crossed}
@@ -114,10 +114,6 @@ zero_mbr =
       unknown = 0;
       partitions = zero_record ∷ zero_record ∷ zero_record ∷ zero_record ∷ [];
     }
-
--- the answer that a verdict and the value beside it stand for
-unfoldable pub answered : {A : Type 0} → Beside A → Answer A
-answered r = and_then r.verdict (λ u. accepted r.value)
 
 abbrev pub mbr_to_c : Answer ProtectiveMbr → GptMbrRead
 mbr_to_c a = crossed (λ k m. record { number = k; mbr = m }) zero_mbr a

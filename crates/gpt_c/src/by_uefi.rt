@@ -8,7 +8,6 @@ ghost use Rattle.uefi.specs.Array.{counted, entries_by_uefi, after_by_uefi, entr
 ghost use Rattle.answers_c.specs.Crossing.{outcome_to_c, count_to_c, next_to_c, held_to_c};
 ghost use Rattle.gpt_c.specs.Exports.{header_to_c};
 
-use crate::headers;
 use crate::headers::GptHeaderRead;
 use answers_c::{GptCount, GptNext, GptSlotRead};
 use header::Header;
@@ -19,7 +18,7 @@ use units::Slot;
 pub extern "C" fn gpt_uefi_read_primary_header(img: &[u8], b: u64) -> GptHeaderRead
     ensures { result ≡ header_to_c (primary_by_uefi img.now b) }
 {
-    headers::header_to_c(uefi::read_primary_header(img, b))
+    uefi::read_primary_header(img, b).into()
 }
 
 // The backup header, in the last whole block: 1, 8, 4, 29, 5, 30, 31.
@@ -27,7 +26,7 @@ pub extern "C" fn gpt_uefi_read_primary_header(img: &[u8], b: u64) -> GptHeaderR
 pub extern "C" fn gpt_uefi_read_backup_header(img: &[u8], b: u64) -> GptHeaderRead
     ensures { result ≡ header_to_c (backup_by_uefi img.now b) }
 {
-    headers::header_to_c(uefi::read_backup_header(img, b))
+    uefi::read_backup_header(img, b).into()
 }
 
 // What a slot of the array that a header names holds: 1, 7, 3, 2, 6, 18.
@@ -35,7 +34,7 @@ pub extern "C" fn gpt_uefi_read_backup_header(img: &[u8], b: u64) -> GptHeaderRe
 pub extern "C" fn gpt_uefi_read_partition(img: &[u8], h: Header, b: u64, slot: u32) -> GptSlotRead
     ensures { result ≡ held_to_c (entry_by_uefi img.now h b slot) }
 {
-    answers_c::slot_to_c(uefi::read_partition(img, h, b, Slot(slot)))
+    uefi::read_partition(img, h, b, Slot(slot)).into()
 }
 
 // How many entries of that array are used: 1, 7, 3, 2, 6.
@@ -43,7 +42,7 @@ pub extern "C" fn gpt_uefi_read_partition(img: &[u8], h: Header, b: u64, slot: u
 pub extern "C" fn gpt_uefi_count_partitions(img: &[u8], h: Header, b: u64) -> GptCount
     ensures { result ≡ count_to_c (counted (entries_by_uefi img.now h b)) }
 {
-    answers_c::count_to_c(uefi::count_partitions(img, h, b))
+    uefi::count_partitions(img, h, b).into()
 }
 
 // The first used slot of that array after a slot, where slot 0 stands before the first: 1, 7, 3, 2, 6.
@@ -51,7 +50,7 @@ pub extern "C" fn gpt_uefi_count_partitions(img: &[u8], h: Header, b: u64) -> Gp
 pub extern "C" fn gpt_uefi_next_partition(img: &[u8], h: Header, b: u64, after: u32) -> GptNext
     ensures { result ≡ next_to_c (after_by_uefi img.now h b after) }
 {
-    answers_c::next_to_c(uefi::next_partition(img, h, b, Slot(after)))
+    uefi::next_partition(img, h, b, Slot(after)).into()
 }
 
 // The used entries of that array into lent bytes, 136 bytes an entry, and how many there are: 1, 7, 3, 2, 6, 15 where there are fewer bytes.
@@ -66,7 +65,7 @@ pub extern "C" fn gpt_uefi_file_read_partitions(
 {
     let p = uefi::inner::plan_for(img, h, b);
     let q = rows::inner::fill_bytes(img, p, out);
-    answers_c::count_to_c(q.answer())
+    q.answer().into()
 }
 
 // How many entries of the primary table are used, header and array in one: 1, 2, 4, 29, 5, 30, 31, 7, 3, 2, 6.
@@ -74,7 +73,7 @@ pub extern "C" fn gpt_uefi_file_read_partitions(
 pub extern "C" fn gpt_uefi_count_primary(img: &[u8], b: u64) -> GptCount
     ensures { result ≡ count_to_c (counted (primary_entries img.now b)) }
 {
-    answers_c::count_to_c(uefi::count_primary(img, b))
+    uefi::count_primary(img, b).into()
 }
 
 // The same of the backup table: 1, 8, 4, 29, 5, 30, 31, 7, 3, 2, 6.
@@ -82,7 +81,7 @@ pub extern "C" fn gpt_uefi_count_primary(img: &[u8], b: u64) -> GptCount
 pub extern "C" fn gpt_uefi_count_backup(img: &[u8], b: u64) -> GptCount
     ensures { result ≡ count_to_c (counted (backup_entries img.now b)) }
 {
-    answers_c::count_to_c(uefi::count_backup(img, b))
+    uefi::count_backup(img, b).into()
 }
 
 // The used entries of the primary table into lent bytes, header and array in one: 1, 2, 4, 29, 5, 30, 31, 7, 3, 2, 6, 15.
@@ -92,7 +91,7 @@ pub extern "C" fn gpt_uefi_list_primary(img: &[u8], b: u64, out: &mut [u8]) -> G
 {
     let p = uefi::inner::plan_primary(img, b);
     let q = rows::inner::fill_bytes(img, p, out);
-    answers_c::count_to_c(q.answer())
+    q.answer().into()
 }
 
 // The same of the backup table: 1, 8, 4, 29, 5, 30, 31, 7, 3, 2, 6, 15.
@@ -102,5 +101,5 @@ pub extern "C" fn gpt_uefi_list_backup(img: &[u8], b: u64, out: &mut [u8]) -> Gp
 {
     let p = uefi::inner::plan_backup(img, b);
     let q = rows::inner::fill_bytes(img, p, out);
-    answers_c::count_to_c(q.answer())
+    q.answer().into()
 }

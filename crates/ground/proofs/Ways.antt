@@ -13,7 +13,7 @@ use Rattle.units.specs.declared.Reason.{Reason}
 use Rattle.units.specs.declared.Refusal.TheVariants.{NoRoom}
 use Rattle.units.specs.Answer.{Answer, accepted, refused, plain, if_zero, judged}
 use Rattle.units.specs.Refusals.{why_at, reason_of}
-use Rattle.units.proofs.Chains.{Named, named-is, named-when, found, past, number-of, none-when}
+use Rattle.units.proofs.Chains.{Named, named-is, named-when, found, past, number-of, none-when, judged-none, judged-some}
 use Rattle.units.proofs.Lists.{length-lent}
 use Rattle.tables.specs.Lens.{Tables, Front, copy_in, tables}
 use Rattle.tables.specs.Entries.{entries_ok}
@@ -24,12 +24,9 @@ use Rattle.tables.proofs.Copies.{lent-tables}
 use Rattle.tables.proofs.EntryLaws.{entries-of}
 use Rattle.tables.proofs.Good.{Good, room-ok, check-good}
 use Rattle.checking.proofs.CheckWays.{named-check}
-use Rattle.ground.specs.declared.RunCount.{RunCount}
-use Rattle.ground.specs.declared.RunCount.TheVariants as count
-use Rattle.ground.specs.declared.inner.Counted.{Counted}
 use Rattle.ground.specs.Ground.{Run, runs}
 use Rattle.ground.specs.Search.{Checked, front_runs}
-use Rattle.ground.specs.Answers.{run_count_means, run_count_of, rows_check, runs_of, ground_check, settle_rows, RowsEnd, rows_outcome, image_check, ground_outcome}
+use Rattle.ground.specs.Answers.{rows_check, runs_of, ground_check, settle_rows, RowsEnd, rows_outcome, image_check, ground_outcome}
 
 -- ---- the front table as the code lends it
 
@@ -102,71 +99,41 @@ module _ (rs : List Run) (ss ls : List ℕ) {m : ℕ} {f : Why} (n : m ≡ lengt
   here : f ≡ rows_check (length ss) (length ls) (length rs)
   here = e ∙ ap (rows_check (length ss) (length ls)) n
 
-  counted : Counted
-  counted = record { found = rows_check (length ss) (length ls) (length rs); count = if_zero (rows_check (length ss) (length ls) (length rs)).number (length rs) 0 }
-
-  pub into-refused : (f.number ≡ 0 → ⊥) → RowsEnd (rows_outcome rs ss ls) (record { found = f; count = 0 }) ss ls
-  unfolding rows_outcome counted
-  into-refused d =
+  pub into-refused : {r : Reason} → (f.number ≡ 0 → ⊥) → r ≡ reason_of f → RowsEnd (rows_outcome rs ss ls) (refused (why_at r)) ss ls
+  unfolding rows_outcome
+  into-refused {r} d q =
+      let w : Why = rows_check (length ss) (length ls) (length rs) in
       let z : (rows_check (length ss) (length ls) (length rs)).number ≡ 0 → ⊥ = λ z. d (number-of here ∙ z) in
-      let c : ◌≡◌ {A = Counted} (record { found = f; count = 0 }) counted =
-      ap (λ (w : Why). record { found = w; count = 0 }) here
-      ∙ ap (λ (k : ℕ). record { found = rows_check (length ss) (length ls) (length rs); count = k }) (other (rows_check (length ss) (length ls) (length rs)).number (length rs) 0 z) in
-      subst (λ (r : Counted). RowsEnd (rows_outcome rs ss ls) r ss ls) (sym c) (settle-kept (rows_check (length ss) (length ls) (length rs)) counted rs ss ls z)
+      let n : why_at r ≡ rows_check (length ss) (length ls) (length rs) =
+      ap why_at q ∙ ap (λ (x : Why). why_at (reason_of x)) here ∙ (named-rows (length ss) (length ls) (length rs)).name z in
+      subst (λ (a : Answer ℕ). RowsEnd (settle_rows w (judged w (length rs)) rs ss ls) a ss ls) (judged-some (length rs) w z ∙ ap refused (sym n)) (settle-kept w (judged w (length rs)) rs ss ls z)
 
   pub into-filled : {o p : List ℕ} → f.number ≡ 0 → o ≡ sets ss 0 (map (λ (r : Run). r.start) rs) → p ≡ sets ls 0 (map (λ (r : Run). r.blocks) rs)
-      → RowsEnd (rows_outcome rs ss ls) (record { found = f; count = m }) o p
-  unfolding rows_outcome counted
+      → RowsEnd (rows_outcome rs ss ls) (accepted m) o p
+  unfolding rows_outcome
   into-filled {o} {p} z a b =
+      let w : Why = rows_check (length ss) (length ls) (length rs) in
       let y : (rows_check (length ss) (length ls) (length rs)).number ≡ 0 = sym (number-of here) ∙ z in
-      let c : ◌≡◌ {A = Counted} (record { found = f; count = m }) counted =
-      ap (λ (w : Why). record { found = w; count = m }) here
-      ∙ ap (λ (k : ℕ). record { found = rows_check (length ss) (length ls) (length rs); count = k }) (n ∙ sym (ap (λ (k : ℕ). if_zero k (length rs) 0) y)) in
-      subst (λ (r : Counted). RowsEnd (rows_outcome rs ss ls) r o p) (sym c) (settle-filled (rows_check (length ss) (length ls) (length rs)) counted rs ss ls y a b)
-
--- ---- the answer by its name
-
-pub count-fine : (w : Why) (n : ℕ) → w.number ≡ 0 → count.Runs n ≡ run_count_of w n
-unfolding run_count_of
-count-fine w n z = rw z
-
-pub count-refused : (w : Why) (n : ℕ) {r : Reason} → (w.number ≡ 0 → ⊥) → r ≡ reason_of w → count.Refused r ≡ run_count_of w n
-unfolding run_count_of
-count-refused w n d e = ap count.Refused e ∙ other w.number (count.Runs n) (count.Refused (reason_of w)) d
-
--- it means what a call judged so answers
-count-means : (w : Why) (m n : ℕ) → Named w → (w.number ≡ 0 → m ≡ n) → run_count_means (run_count_of w m) ≡ judged w n
-unfolding run_count_of judged
-count-means w m n d e = by w.number (reason_of w) d.name e
-  where
-    by : (k : ℕ) (r : Reason) → ((k ≡ 0 → ⊥) → why_at r ≡ w) → (k ≡ 0 → m ≡ n) → run_count_means (if_zero k (count.Runs m) (count.Refused r)) ≡ if_zero k (accepted n) (refused w)
-    by zero r f g = ap accepted (g refl)
-    by (suc k) r f g = ap refused (f (λ z. omega arith))
+      subst (λ (a : Answer ℕ). RowsEnd (settle_rows w (judged w (length rs)) rs ss ls) a o p) (judged-none (length rs) w y ∙ ap accepted (sym n)) (settle-filled w (judged w (length rs)) rs ss ls y a b)
 
 -- ---- the call
 
 module _ (B : ℕ) (xs ss ls : List ℕ) {f : Why} (e : f ≡ check B (length xs) (tables B xs)) where
-  pub ground-refused : {r : RunCount} → (f.number ≡ 0 → ⊥) → r ≡ run_count_of f 0 → RowsEnd (ground_outcome B xs ss ls) (run_count_means r) ss ls
+  pub ground-refused : {r : Reason} → (f.number ≡ 0 → ⊥) → r ≡ reason_of f → RowsEnd (ground_outcome B xs ss ls) (refused (why_at r)) ss ls
   unfolding ground_outcome ground_check
   ground-refused {r} d q =
       let w : f ≡ image_check B xs ss ls = found _ e d in
       let n : Named f = subst Named (sym e) (named-check B (length xs) (tables B xs)) in
-      let a : run_count_means r ≡ judged (image_check B xs ss ls) (length (runs_of B (length xs) (tables B xs))) =
-      ap run_count_means q ∙ count-means f 0 (length (runs_of B (length xs) (tables B xs))) n (λ z. absurd (d z)) ∙ ap (λ (w : Why). judged w (length (runs_of B (length xs) (tables B xs)))) w in
-      subst (λ (a : Answer ℕ). RowsEnd (ground_outcome B xs ss ls) a ss ls) (sym a) (settle-kept (image_check B xs ss ls) _ _ ss ls (λ z. d (number-of w ∙ z)))
+      let z : (image_check B xs ss ls).number ≡ 0 → ⊥ = λ z. d (number-of w ∙ z) in
+      let a : judged (image_check B xs ss ls) (length (runs_of B (length xs) (tables B xs))) ≡ refused (why_at r) =
+      judged-some _ (image_check B xs ss ls) z ∙ ap refused (sym (ap why_at q ∙ n.name d ∙ w)) in
+      subst (λ (a : Answer ℕ). RowsEnd (ground_outcome B xs ss ls) a ss ls) a (settle-kept (image_check B xs ss ls) _ _ ss ls z)
 
-  pub ground-given : {r : RunCount} {c : Counted} {o p : List ℕ} → f.number ≡ 0 → RowsEnd (rows_outcome (front_runs B (length xs) (lent B xs)) ss ls) c o p → r ≡ run_count_of c.found c.count
-      → RowsEnd (ground_outcome B xs ss ls) (run_count_means r) o p
-  unfolding ground_outcome ground_check rows_outcome settle_rows
-  ground-given {r} {c} {o} {p} z g q =
+  pub ground-given : {a : Answer ℕ} {o p : List ℕ} → f.number ≡ 0 → RowsEnd (rows_outcome (front_runs B (length xs) (lent B xs)) ss ls) a o p → RowsEnd (ground_outcome B xs ss ls) a o p
+  unfolding ground_outcome ground_check rows_outcome
+  ground-given {a} {o} {p} z g =
       let rs : List Run = runs_of B (length xs) (tables B xs) in
-      let w : Why = rows_check (length ss) (length ls) (length (runs_of B (length xs) (tables B xs))) in
       let h : (check B (length xs) (tables B xs)).number ≡ 0 = sym (number-of e) ∙ z in
       let i : rows_check (length ss) (length ls) (length (runs_of B (length xs) (tables B xs))) ≡ image_check B xs ss ls = past e z refl in
-      let k : RowsEnd (rows_outcome (runs_of B (length xs) (tables B xs)) ss ls) c o p = subst (λ (rs : List Run). RowsEnd (rows_outcome rs ss ls) c o p) (runs-lent B xs h) g in
-      let m : ℕ = if_zero (rows_check (length ss) (length ls) (length (runs_of B (length xs) (tables B xs)))).number (length (runs_of B (length xs) (tables B xs))) 0 in
-      let a : run_count_means r ≡ judged w (length rs) =
-      ap run_count_means (q ∙ ap (λ (c : Counted). run_count_of c.found c.count) k.answer)
-      ∙ count-means w m (length rs) (named-rows (length ss) (length ls) (length rs)) (λ y. ap (λ (k : ℕ). if_zero k (length rs) 0) y) in
-      subst (λ (v : Why). RowsEnd (settle_rows v (judged v (length rs)) rs ss ls) (run_count_means r) o p) i
-      (record { answer = a; starts = k.starts; lengths = k.lengths })
+      let k : RowsEnd (rows_outcome (runs_of B (length xs) (tables B xs)) ss ls) a o p = subst (λ (rs : List Run). RowsEnd (rows_outcome rs ss ls) a o p) (runs-lent B xs h) g in
+      subst (λ (v : Why). RowsEnd (settle_rows v (judged v (length rs)) rs ss ls) a o p) i k

@@ -1,35 +1,15 @@
 -- What `free_runs` answers, and what the two rows then hold. From document 02, 1/13: the card check's numbers, then 15 exactly if either row is shorter than the count; the runs stand
 -- in the first places, and the places after the count stay. A refusal of the check says its place (5/13); 15 has none. Assumes nothing.
-use Rattle.std.specs.Prelude.{◌≡◌, refl, ◌||◌, List, map, ℕ, ltb, length}
-use Rattle.std.proofs.Common.{sym, ap, ◌∙◌}
+use Rattle.std.specs.Prelude.{◌≡◌, ◌||◌, List, map, ℕ, ltb, length}
+use Rattle.std.proofs.Common.{sym, ◌∙◌}
 use Rattle.std.proofs.lemmas.List.Edits.{sets}
 use Rattle.units.specs.declared.why.Why.{Why}
-use Rattle.units.specs.Answer.{Answer, accepted, refused, plain, when, if_zero, or_else, judged}
-use Rattle.units.specs.Refusals.{why_at, reason_of, reason-back}
-use Rattle.units.specs.Meanings.{made_with, one-meaning}
+use Rattle.units.specs.Answer.{Answer, plain, when, if_zero, or_else, judged}
 use Rattle.tables.specs.Lens.{Tables, tables}
 use Rattle.tables.specs.Check.{check}
-use Rattle.ground.specs.declared.RunCount.{RunCount}
-use Rattle.ground.specs.declared.RunCount.TheVariants as count
-use Rattle.ground.specs.declared.inner.Counted.{Counted}
 use Rattle.ground.specs.Ground.{Run, runs}
 
--- ---- the answer
-
-abbrev pub run_count_means : RunCount → Answer ℕ
-run_count_means (count.Runs n) = accepted n
-run_count_means (count.Refused r) = refused (why_at r)
-
-count-back : (r : RunCount) → made_with count.Runs count.Refused (run_count_means r) ≡ r
-count-back (count.Runs n) = refl
-count-back (count.Refused r) = ap count.Refused (reason-back r)
-
-pub run-count-one : (r s : RunCount) → run_count_means r ≡ run_count_means s → r ≡ s
-run-count-one = one-meaning run_count_means (made_with count.Runs count.Refused) count-back
-
--- the answer that a refusal as a value stands for, or else a count
-unfoldable pub run_count_of : Why → ℕ → RunCount
-run_count_of w n = if_zero w.number (count.Runs n) (count.Refused (reason_of w))
+-- ---- the tests
 
 -- 15 for rows of p and q places, where there are m runs
 unfoldable pub rows_check : ℕ → ℕ → ℕ → Why
@@ -71,10 +51,8 @@ pub rows-unique : {A : Type 0} {o : Rows A} {r s : A} {a b c d : List ℕ} → R
 rows-unique p q = (p.answer ∙ sym q.answer, p.starts ∙ sym q.starts, p.lengths ∙ sym q.lengths)
 
 -- of a card that was checked, with the runs rs
-unfoldable pub rows_outcome : List Run → List ℕ → List ℕ → Rows Counted
-rows_outcome rs ss ls =
-    settle_rows (rows_check (length ss) (length ls) (length rs))
-    (record { found = rows_check (length ss) (length ls) (length rs); count = if_zero (rows_check (length ss) (length ls) (length rs)).number (length rs) 0 }) rs ss ls
+unfoldable pub rows_outcome : List Run → List ℕ → List ℕ → Rows (Answer ℕ)
+rows_outcome rs ss ls = settle_rows (rows_check (length ss) (length ls) (length rs)) (judged (rows_check (length ss) (length ls) (length rs)) (length rs)) rs ss ls
 
 -- of an image
 abbrev pub image_check : ℕ → List ℕ → List ℕ → List ℕ → Why

@@ -3,34 +3,27 @@
 ghost use Rattle.std.specs.Prelude.{◌≡◌, map, ◌+◌, ◌≤◌, length};
 ghost use Rattle.std.proofs.lemmas.List.Edits.{sets};
 ghost use Rattle.units.specs.Bytes.{part};
+ghost use Rattle.units.specs.Meanings.{card_means};
 ghost use Rattle.ground.specs.Ground.{Run};
 ghost use Rattle.ground.specs.Search.{Checked, At, Nearest, Next, nearer_of, front_runs};
-ghost use Rattle.ground.specs.Answers.{rows_check, rows_outcome, RowsEnd, run_count_of};
+ghost use Rattle.ground.specs.Answers.{rows_check, rows_outcome, RowsEnd};
 
-use crate::RunCount;
 use units::why::Why;
-use units::{BytePlace, Lba, Place, Slot, why};
+use units::{BytePlace, Lba, Place, Reason, Slot, why};
 
 // The blocks of a used entry. Where there is none: the block after the last usable one, and the last usable one.
-#[derive(Clone, Copy)]
+#[derive(Clone, Copy, Debug, PartialEq, Eq)]
 struct Span {
     first: Lba,
     last: Lba,
 }
 
 // A run, and the block from which the search goes on. No blocks: there are no more runs.
-#[derive(Clone, Copy)]
+#[derive(Clone, Copy, Debug, PartialEq, Eq)]
 struct Gap {
     start: Lba,
     blocks: u64,
     after: Lba,
-}
-
-// What refuses, or nothing, and how many runs there are, 0 beside a refusal.
-#[derive(Clone, Copy)]
-pub struct Counted {
-    pub found: Why,
-    pub count: u32,
 }
 
 // The refusal where a row has no room.
@@ -65,10 +58,8 @@ fn nearest(copy: &[u8], array: BytePlace, x: Lba, none: Span) -> Span
     ensures { Nearest (part copy.now array.0 16384) 128 x.0 none result }
 {
     let mut best = none;
-    let mut k = 0;
-    while k < 128 {
+    for k in 0..128 {
         best = nearer(copy, partition::inner::entry_place(array, k), x, best);
-        k += 1;
     }
     best
 }
@@ -85,6 +76,7 @@ fn next_run(copy: &[u8], array: BytePlace, len: usize, b: u64, x: Lba) -> Gap
         last,
     };
     let mut from = x;
+    // By `while`: each step jumps over a whole span, so there is no range to go through.
     while from.0 <= last.0 {
         let s = nearest(copy, array, from, none);
         if from.0 < s.first.0 {
@@ -111,6 +103,7 @@ fn count_runs(copy: &[u8], len: usize, b: u64) -> u32
     let array = tables::inner::array_in(b, false);
     let mut n = 0u32;
     let mut g = next_run(copy, array, len, b, tables::inner::first_usable(b));
+    // By `while`: each search begins past the run before it, so it jumps over spans too.
     while g.blocks != 0 {
         n += 1;
         g = next_run(copy, array, len, b, g.after);
@@ -138,15 +131,12 @@ fn fill(copy: &[u8], len: usize, b: u64, n: u32, starts: &mut [u64], lengths: &m
     ensures lengths_after { lengths.new ≡ sets lengths.old 0 (map (λ (r : Run). r.blocks) (front_runs b len copy.now)) }
 {
     let array = tables::inner::array_in(b, false);
-    let count = n as usize;
     let mut x = tables::inner::first_usable(b);
-    let mut i = 0;
-    while i < count {
+    for i in 0..n as usize {
         let g = next_run(copy, array, len, b, x);
         starts[i] = g.start.0;
         lengths[i] = g.blocks;
         x = g.after;
-        i += 1;
     }
 }
 
@@ -157,26 +147,15 @@ pub fn runs_into(
     b: u64,
     starts: &mut [u64],
     lengths: &mut [u64],
-) -> Counted
+) -> Result<u32, Reason>
     requires { Checked b len copy.now b }
-    ensures { RowsEnd (rows_outcome (front_runs b len copy.now) starts.old lengths.old) result starts.new lengths.new }
+    ensures { RowsEnd (rows_outcome (front_runs b len copy.now) starts.old lengths.old) (card_means result) starts.new lengths.new }
 {
     let n = count_runs(copy, len, b);
     let found = rows_check(n, starts.len(), lengths.len());
     if found.number != 0 {
-        return Counted { found, count: 0 };
+        return Err(found.reason());
     }
     fill(copy, len, b, n, starts, lengths);
-    Counted { found, count: n }
-}
-
-// The answer by its name: a refusal, or a count where nothing refuses.
-pub fn answer(found: Why, count: u32) -> RunCount
-    ensures { result ≡ run_count_of found count }
-{
-    let n = found.number;
-    if n == 0 {
-        return RunCount::Runs(count);
-    }
-    RunCount::Refused(found.reason())
+    Ok(n)
 }

@@ -4,34 +4,26 @@
 
 pub mod inner; // inner.rt: the same of a front table by its own bytes, for callers that have checked the card
 
-ghost use Rattle.ground.specs.Answers.{RowsEnd, run_count_means, ground_outcome};
+ghost use Rattle.units.specs.Meanings.{card_means};
+ghost use Rattle.ground.specs.Answers.{RowsEnd, ground_outcome};
 
 use units::Reason;
 
-// How many runs there are, or why not and where.
-#[derive(Clone, Copy)]
-pub enum RunCount {
-    Runs(u32),
-    Refused(Reason),
-}
-
 // All runs, ascending, into the first places of the two rows; the places after the count stay: the card check's numbers, then 15 if either row is shorter than the count.
 // A card has at most 129 runs.
-pub fn free_runs(img: &[u8], b: u64, starts: &mut [u64], lengths: &mut [u64]) -> RunCount
-    ensures { RowsEnd (ground_outcome b img.now starts.old lengths.old) (run_count_means result) starts.new lengths.new }
+pub fn free_runs(img: &[u8], b: u64, starts: &mut [u64], lengths: &mut [u64]) -> Result<u32, Reason>
+    ensures { RowsEnd (ground_outcome b img.now starts.old lengths.old) (card_means result) starts.new lengths.new }
 {
-    let t = crc32::inner::table();
-    let found = checking::inner::check_with(&t, img, b);
+    let found = checking::inner::check_with(img, b);
     if found.number != 0 {
-        return inner::answer(found, 0);
+        return Err(found.reason());
     }
     let size = b as usize;
-    let c = inner::runs_into(
+    inner::runs_into(
         &img[size..size + (size + 16384)],
         img.len(),
         b,
         starts,
         lengths,
-    );
-    inner::answer(c.found, c.count)
+    )
 }

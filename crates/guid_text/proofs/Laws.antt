@@ -22,6 +22,8 @@ use Rattle.guid_text.specs.GuidTexts.{dash, group, clock_of, node_of, text_of_gu
 pub group-stored : (s : List ℕ) (at n x : ℕ) {s₁ : List ℕ} → s₁ ≡ sets s at (digits 16 n x) → set s₁ (at + n) dash ≡ sets s at (group n x)
 group-stored s at n x e = and_then s at (digits 16 n x) (at + n) (dash ∷ []) (omega (arith, length_digits 16 n x)) e refl
 
+pub ruleset groups = (group-stored)
+
 -- ---- digits that are read
 
 -- what seven digits or fewer stand for has room for one more
@@ -71,6 +73,10 @@ stops-here text i h e = rw (next-place i h, e)
 pub all_right : (text : List ℕ) (i : ℕ) → 36 ≤ i → wrong_from text i (36 - i) ≡ i
 unfolding wrong_from
 all_right text i h = let z : 36 - i ≡ 0 = omega arith in rw z
+
+pub ruleset places = (right-past)
+
+pub ruleset passing = (goes_on, stops-here, all_right)
 
 -- ---- the whole text
 

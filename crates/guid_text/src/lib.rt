@@ -5,16 +5,16 @@ pub mod inner;
 
 ghost use Rattle.std.specs.Prelude.{◌≡◌};
 ghost use Rattle.units.specs.Answer.{Ends};
-ghost use Rattle.units.specs.Meanings.{stored_means};
+ghost use Rattle.units.specs.Meanings.{means};
 ghost use Rattle.text.specs.Texts.{text_stored};
 ghost use Rattle.guid_text.specs.GuidTexts.{text_of_guid, guid_of_text};
 
 use text::deliver;
-use units::{Guid, Stored};
+use units::{Guid, Refusal};
 
 // Stores the text of a GUID, 36 characters in lower case and a zero: 2.
-pub fn guid_to_text(out: &mut [u8], guid: Guid) -> Stored
-    ensures { Ends (text_stored out.old (text_of_guid guid)) (stored_means result) out.new }
+pub fn guid_to_text(out: &mut [u8], guid: Guid) -> Result<usize, Refusal>
+    ensures { Ends (text_stored out.old (text_of_guid guid)) (means result) out.new }
 {
     let mut words = [0u8; 36];
     inner::put_guid_text(&mut words, guid);
@@ -31,6 +31,7 @@ pub struct GuidOfText {
 }
 
 // Reads the usual form of a GUID, with digits of either case: 39 where the text has another form.
+#[tactic(auto, using(units::proofs::Laws::tests), unfolding(crate::specs::GuidTexts::guid_of_text))]
 pub fn guid_from_text(text: &[u8]) -> GuidOfText
     ensures { result ≡ guid_of_text text.now }
 {

@@ -16,7 +16,7 @@ use mir.Val.{Val}
 use Rattle.units.specs.declared.Guid.{Guid}
 use Rattle.units.specs.declared.why.Why.{Why}
 use Rattle.units.specs.Answer.{Answer, accepted, refused, number_of, refuse, Outcome, gives}
-use Rattle.units.specs.Bytes.{part, num, bytes, total, laid, same}
+use Rattle.units.specs.Bytes.{part, num, bytes, same}
 use Rattle.units.specs.Guids.{guid_bytes}
 use Rattle.units.specs.Places.{good_size, inside, inside_or_empty}
 use Rattle.units.specs.Held.{Small, GuidHeld}
@@ -29,45 +29,13 @@ use Rattle.crc32.specs.HeaderSum.{blanked, header_sum}
 use Rattle.header.specs.declared.Header.{Header}
 use Rattle.header.specs.Format.{signature, header_at, header_bytes}
 use Rattle.header.specs.Reading.{header_read, primary_read, backup_read}
-use Rattle.header.specs.Writing.{array_bytes, parts_sum, stored, summed, with_sums, header_block, Written, own_block, written}
+use Rattle.header.specs.declared.Written.{Written}
+use Rattle.header.specs.Writing.{array_bytes, parts_sum, stored, summed, with_sums, header_block, own_block, written}
 use Rattle.header.specs.contracts.Header.{the_type}
 use Rattle.header.proofs.Ways.{last_block, read-good}
 
 pub length-header : (h : Header) → length (header_bytes h) ≡ 92
 length-header h = simp (length-append, length-bytes)
-
--- ---- the two runs of numbers that the code stores by their widths
-
-abbrev pub low_widths : List ℕ
-low_widths = 2 ∷ 2 ∷ 4 ∷ 4 ∷ 4 ∷ 8 ∷ 8 ∷ 8 ∷ 8 ∷ []
-
-abbrev pub low : Header → List ℕ
-low h =
-    h.revision.1
-    ∷ h.revision.0
-    ∷ h.header_size_le
-    ∷ h.crc32
-    ∷ h.reserved
-    ∷ h.current_lba.0
-    ∷ h.backup_lba.0
-    ∷ h.first_usable.0
-    ∷ h.last_usable.0
-    ∷ []
-
-abbrev pub high_widths : List ℕ
-high_widths = 8 ∷ 4 ∷ 4 ∷ 4 ∷ []
-
-abbrev pub high : Header → List ℕ
-high h = h.part_start.0 ∷ h.num_parts ∷ h.part_size ∷ h.crc32_parts ∷ []
-
-pub low-total : total low_widths ≡ 48
-unfolding total
-low-total = refl
-
--- field after field, as the format lists them
-pub laid-header : (h : Header) → signature ++ (laid low_widths (low h) ++ (guid_bytes h.disk_guid ++ laid high_widths (high h))) ≡ header_bytes h
-unfolding laid
-laid-header h = simp (append_assoc, append-nil)
 
 -- ---- the numbers of a header fit their fields
 

@@ -2,4 +2,3 @@
 pub mod Format
 pub mod Reading
 pub mod Writing
-pub mod Meanings

@@ -7,6 +7,7 @@ use Rattle.units.specs.Places.{good_size, inside, inside_or_empty}
 use Rattle.crc32.specs.Crc.{crc}
 use Rattle.crc32.specs.HeaderSum.{header_sum}
 use Rattle.header.specs.declared.Header.{Header}
+use Rattle.header.specs.declared.Written.{Written}
 use Rattle.header.specs.Format.{header_bytes}
 
 -- the bytes of the array that a header names
@@ -55,11 +56,6 @@ with_sums h parts = summed h (header_sum (header_bytes (stored (summed h 0 parts
 -- one whole block of b bytes
 abbrev pub header_block : Header → ℕ → List ℕ
 header_block h b = header_bytes (stored h) ++ replicate (b - 92) 0
-
--- what an accepted write answers: the bytes stored, and the header with its new sums
-pub record Written : Type 0 where
-  pub count : ℕ
-  pub header : Header
 
 -- the own block, once the array's sum is known: 3, 2
 unfoldable pub own_block : List ℕ → Header → ℕ → Answer ℕ → Outcome (Answer Written)

@@ -1,5 +1,6 @@
 -- The ways out of the judgement of a set, one law for each: what the tests and one slot's step told, and what the definition then gives.
 -- No contract cites this file. Assumes nothing.
+use Rattle.std.specs.Prelude.{Option, Some, None}
 use mathlib.Core.Path.{◌≡◌, refl, sym, ap, ◌∙◌}
 use mathlib.Core.Bool.{true, false}
 use mathlib.Core.List.{List, ◌∷◌}
@@ -15,8 +16,6 @@ use Rattle.tables.specs.Lens.{tables}
 use Rattle.tables.specs.Check.{check, check_answer}
 use Rattle.label.specs.declared.Label.{Label}
 use Rattle.label.specs.declared.Dated.{Dated}
-use Rattle.label.specs.declared.inner.Agreed.{Agreed}
-use Rattle.label.specs.declared.inner.Agreed.TheVariants as agreed
 use Rattle.label.specs.Labels.{dated_of, same_dated}
 use Rattle.label.specs.Calls.{read_label_answer}
 use Rattle.label.specs.Judging.{SetAnswer, agreeing, step_answer, at_end, judge_from, shown_in, set_check, judge_answer}
@@ -24,18 +23,18 @@ use Rattle.label.proofs.Ways.{judged-refused, judged-accepted}
 
 -- ---- one slot beside the first
 
-module _ (a : Agreed) (e : Dated) where
-  pub agree-first : a ≡ agreed.Nothing → accepted e ≡ agreeing a e
+module _ (a : Option Dated) (e : Dated) where
+  pub agree-first : a ≡ None → accepted e ≡ agreeing a e
   agree-first p = rw p
 
-  module _ {d : Dated} (p : a ≡ agreed.On d) where
+  module _ {d : Dated} (p : a ≡ Some d) where
     pub agree-37 : same_dated d e ≡ false → refuse 37 ≡ agreeing a e
     agree-37 q = rw (p, q)
 
     pub agree_same : same_dated d e ≡ true → accepted d ≡ agreeing a e
     agree_same q = rw (p, q)
 
-module _ (a : Agreed) {l : Answer Label} where
+module _ (a : Option Dated) {l : Answer Label} where
   pub step-refused : {w : Why} → l ≡ refused w → refused w ≡ step_answer a l
   unfolding step_answer
   step-refused e = rw e
@@ -52,16 +51,16 @@ module _ (B : ℕ) (xs ss : List ℕ) (i : ℕ) where
   shown-step h = let e : i + 1 ≡ suc i = omega arith in rw (e, drop-cons ss i 0 h)
 
   -- a slot that agrees: the rest of the list, held against its first date
-  pub judge-next : i < length ss → (a : Agreed) {d : Dated} → step_answer a (read_label_answer B xs (get_or ss i 0)) ≡ accepted d → judge_from (agreed.On d) (shown_in B xs (drop (i + 1) ss)) ≡ judge_from a (shown_in B xs (drop i ss))
+  pub judge-next : i < length ss → (a : Option Dated) {d : Dated} → step_answer a (read_label_answer B xs (get_or ss i 0)) ≡ accepted d → judge_from (Some d) (shown_in B xs (drop (i + 1) ss)) ≡ judge_from a (shown_in B xs (drop i ss))
   unfolding judge_from
   judge-next h a e = rw (shown-step h, e)
 
   -- one that is refused: the end
-  pub judge-stop : i < length ss → (a : Agreed) {w : Why} → step_answer a (read_label_answer B xs (get_or ss i 0)) ≡ refused w → record { answer = refused w; slot = get_or ss i 0 } ≡ judge_from a (shown_in B xs (drop i ss))
+  pub judge-stop : i < length ss → (a : Option Dated) {w : Why} → step_answer a (read_label_answer B xs (get_or ss i 0)) ≡ refused w → record { answer = refused w; slot = get_or ss i 0 } ≡ judge_from a (shown_in B xs (drop i ss))
   unfolding judge_from
   judge-stop h a e = rw (shown-step h, e)
 
-  pub judge-end : length ss ≤ i → (a : Agreed) → at_end a ≡ judge_from a (shown_in B xs (drop i ss))
+  pub judge-end : length ss ≤ i → (a : Option Dated) → at_end a ≡ judge_from a (shown_in B xs (drop i ss))
   unfolding judge_from shown_in
   judge-end h a = rw (drop_of_length-le ss h)
 
@@ -82,9 +81,9 @@ module _ (B : ℕ) (xs ss : List ℕ) where
       unfolding set_check or_else
       set-check = rw (g, e)
 
-      answered : judge_answer B xs ss ≡ if_zero (check B (length xs) (tables B xs)).number (judge_from agreed.Nothing (shown_in B xs ss)) (record { answer = refused (check B (length xs) (tables B xs)); slot = 0 })
+      answered : judge_answer B xs ss ≡ if_zero (check B (length xs) (tables B xs)).number (judge_from None (shown_in B xs ss)) (record { answer = refused (check B (length xs) (tables B xs)); slot = 0 })
       unfolding judge_answer
-      answered = ap (λ (w : Why). if_zero w.number (judge_from agreed.Nothing (shown_in B xs ss)) (record { answer = refused w; slot = 0 })) set-check
+      answered = ap (λ (w : Why). if_zero w.number (judge_from None (shown_in B xs ss)) (record { answer = refused w; slot = 0 })) set-check
 
       pub judge-refused : {w : Why} → refused w ≡ check_answer B xs → record { answer = refused w; slot = 0 } ≡ judge_answer B xs ss
       judge-refused {w} q =
@@ -95,7 +94,7 @@ module _ (B : ℕ) (xs ss : List ℕ) where
           some zero x y d = absurd (d refl)
           some (suc k) x y d = refl
 
-      pub judge-list : accepted tt ≡ check_answer B xs → {r : SetAnswer} → r ≡ judge_from agreed.Nothing (shown_in B xs ss) → r ≡ judge_answer B xs ss
+      pub judge-list : accepted tt ≡ check_answer B xs → {r : SetAnswer} → r ≡ judge_from None (shown_in B xs ss) → r ≡ judge_answer B xs ss
       judge-list q h =
           let k = judged-accepted tt (check B (length xs) (tables B xs)) q in
-          h ∙ ap (λ (z : ℕ). if_zero z (judge_from agreed.Nothing (shown_in B xs ss)) (record { answer = refused (check B (length xs) (tables B xs)); slot = 0 })) (sym k.0) ∙ sym answered
+          h ∙ ap (λ (z : ℕ). if_zero z (judge_from None (shown_in B xs ss)) (record { answer = refused (check B (length xs) (tables B xs)); slot = 0 })) (sym k.0) ∙ sym answered

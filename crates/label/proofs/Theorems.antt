@@ -1,6 +1,7 @@
 -- What the label calls come to, as theorems over their definitions: an accepted set has one date and one style revision; what is named again, or left out, changes
 -- nothing; a refused set names the first slot that fails or differs; a label write is a payload write, and what was written is the label. No contract cites this file.
 -- Assumes nothing.
+use Rattle.std.specs.Prelude.{None}
 use mathlib.Core.Path.{◌≡◌, refl, sym, ap, ◌∙◌, subst}
 use mathlib.Core.Logic.{◌⊎◌, ⊎_elim}
 use mathlib.Core.Bool.{Bool, true, false, not}
@@ -26,7 +27,6 @@ use Rattle.tables.specs.Check.{check}
 use Rattle.card.specs.Calls.{used_check, payload_check, payload_at, payload_outcome}
 use Rattle.label.specs.declared.Label.{Label}
 use Rattle.label.specs.declared.Dated.{Dated}
-use Rattle.label.specs.declared.inner.Agreed.TheVariants as agreed
 use Rattle.label.specs.Labels.{mark, good_date, label_of, label_bytes, LabelHeld}
 use Rattle.label.specs.Calls.{label_place, read_label_answer, write_check, write_label_outcome}
 use Rattle.label.specs.Judging.{Shown, SetAnswer, one_date, refused_at, judge_from, shown_in, set_check, judge_answer}
@@ -48,24 +48,24 @@ unlike {w} {s} {d} e =
 
 module _ (B : ℕ) (xs ss : List ℕ) where
   -- an accepted set was judged slot by slot
-  one-listed : {d : Dated} → judge_answer B xs ss ≡ one_date d → judge_from agreed.Nothing (shown_in B xs ss) ≡ one_date d
+  one-listed : {d : Dated} → judge_answer B xs ss ≡ one_date d → judge_from None (shown_in B xs ss) ≡ one_date d
   unfolding judge_answer
   one-listed {d} e = by (set_check B (length xs) (tables B xs) ss).number e
     where
-      by : (k : ℕ) → if_zero k (judge_from agreed.Nothing (shown_in B xs ss)) (refused_at (set_check B (length xs) (tables B xs) ss) 0) ≡ one_date d → judge_from agreed.Nothing (shown_in B xs ss) ≡ one_date d
+      by : (k : ℕ) → if_zero k (judge_from None (shown_in B xs ss)) (refused_at (set_check B (length xs) (tables B xs) ss) 0) ≡ one_date d → judge_from None (shown_in B xs ss) ≡ one_date d
       by zero q = q
       by (suc k) q = unlike q
 
   -- 1. An accepted set has one date and one style revision: every named slot is used, its label reads, and carries them.
   pub accepted-set : {d : Dated} → judge_answer B xs ss ≡ one_date d → (s : ℕ) → Memᴰ s ss → Carries B xs d s
-  accepted-set e s m = carries B xs s (all_shown B xs ss (one-agrees agreed.Nothing (shown_in B xs ss) (one-listed e)) s m)
+  accepted-set e s m = carries B xs s (all_shown B xs ss (one-agrees None (shown_in B xs ss) (one-listed e)) s m)
 
 -- and a list of which each slot carries them is accepted, if it names any
 pub set-accepted : (B : ℕ) (xs : List ℕ) (s : ℕ) (ss : List ℕ) {d : Dated} → ((t : ℕ) → Memᴰ t (s ∷ ss) → Carries B xs d t) → judge_answer B xs (s ∷ ss) ≡ one_date d
 unfolding shown_in
 set-accepted B xs s ss {d} g =
     let r = (g s (Memᴰ.head refl)).agrees.reads in
-    let h : judge_from agreed.Nothing (shown_in B xs (s ∷ ss)) ≡ one_date d = agrees-one (shown B xs s) (shown_in B xs ss) (shown-all B xs (s ∷ ss) (λ t m. (g t m).agrees)) in
+    let h : judge_from None (shown_in B xs (s ∷ ss)) ≡ one_date d = agrees-one (shown B xs s) (shown_in B xs ss) (shown-all B xs (s ∷ ss) (λ t m. (g t m).agrees)) in
     sym (judge-list B xs (s ∷ ss) (carried-size B xs s r) (ne_eqb (length (s ∷ ss)) 0 (λ z. omega arith)) (sym (judged-none tt (check B (length xs) (tables B xs)) (carried-check B xs s r))) (sym h))
 
 -- 2. Any list whose slots are all named by an accepted list is accepted with the same answer, if it names any: so any other order, and any slot named again.
@@ -87,11 +87,11 @@ unfolding judge_answer shown_in
 judged-as-one B xs before after s m =
     let c : set_check B (length xs) (tables B xs) (before ++ (s ∷ after)) ≡ set_check B (length xs) (tables B xs) (before ++ after) =
     set_same B (length xs) (tables B xs) (before ++ (s ∷ after)) (before ++ after) (filled before (s ∷ after) m ∙ sym (filled before after m)) in
-    let j : judge_from agreed.Nothing (shown_in B xs (before ++ (s ∷ after))) ≡ judge_from agreed.Nothing (shown_in B xs (before ++ after)) =
-    ap (λ (l : List Shown). judge_from agreed.Nothing l) (shown-append B xs before (s ∷ after))
-    ∙ again agreed.Nothing (shown_in B xs before) (shown_in B xs after) (shown B xs s) (mem-shown B xs before m)
-    ∙ sym (ap (λ (l : List Shown). judge_from agreed.Nothing l) (shown-append B xs before after)) in
-    ap (λ (w : Why). if_zero w.number (judge_from agreed.Nothing (shown_in B xs (before ++ (s ∷ after)))) (refused_at w 0)) c
+    let j : judge_from None (shown_in B xs (before ++ (s ∷ after))) ≡ judge_from None (shown_in B xs (before ++ after)) =
+    ap (λ (l : List Shown). judge_from None l) (shown-append B xs before (s ∷ after))
+    ∙ again None (shown_in B xs before) (shown_in B xs after) (shown B xs s) (mem-shown B xs before m)
+    ∙ sym (ap (λ (l : List Shown). judge_from None l) (shown-append B xs before after)) in
+    ap (λ (w : Why). if_zero w.number (judge_from None (shown_in B xs (before ++ (s ∷ after)))) (refused_at w 0)) c
     ∙ ap (λ (r : SetAnswer). if_zero (set_check B (length xs) (tables B xs) (before ++ after)).number r (refused_at (set_check B (length xs) (tables B xs) (before ++ after)) 0)) j
 
 -- ---- a refused set
@@ -113,7 +113,7 @@ stopped B xs t ss {s} {w} d g k =
     (λ u m. carries B xs u (all_shown B xs c.front (subst (λ (l : List Shown). AllAgree d l) (sym c.shows) k.agree) u m))
     (subst (λ (a : Answer Label). Fails d a w) (c.label ∙ ap (λ (u : ℕ). read_label_answer B xs u) k.slot) k.fails)
 
-bad-of : (B : ℕ) (xs ss : List ℕ) {s : ℕ} {w : Why} → (set_check B (length xs) (tables B xs) ss).number ≡ 0 → judge_from agreed.Nothing (shown_in B xs ss) ≡ refused_at w s → FirstBad B xs ss s w
+bad-of : (B : ℕ) (xs ss : List ℕ) {s : ℕ} {w : Why} → (set_check B (length xs) (tables B xs) ss).number ≡ 0 → judge_from None (shown_in B xs ss) ≡ refused_at w s → FirstBad B xs ss s w
 unfolding shown_in
 bad-of B xs [] z h = absurd (set-empty B (length xs) (tables B xs) z)
 bad-of B xs (t ∷ ss) {s} {w} z h =
@@ -127,8 +127,8 @@ pub refused-set : (B : ℕ) (xs ss : List ℕ) {s : ℕ} {w : Why} → judge_ans
 unfolding judge_answer
 refused-set B xs ss {s} {w} e a b = by (set_check B (length xs) (tables B xs) ss) (set_check B (length xs) (tables B xs) ss).number refl (set-numbers B (length xs) (tables B xs) ss) (bad-of B xs ss) e
   where
-    by : (u : Why) (k : ℕ) → u.number ≡ k → (u.number ≤ 17) ⊎ (u.number ≡ 38) → (u.number ≡ 0 → judge_from agreed.Nothing (shown_in B xs ss) ≡ refused_at w s → FirstBad B xs ss s w)
-        → if_zero k (judge_from agreed.Nothing (shown_in B xs ss)) (refused_at u 0) ≡ refused_at w s → FirstBad B xs ss s w
+    by : (u : Why) (k : ℕ) → u.number ≡ k → (u.number ≤ 17) ⊎ (u.number ≡ 38) → (u.number ≡ 0 → judge_from None (shown_in B xs ss) ≡ refused_at w s → FirstBad B xs ss s w)
+        → if_zero k (judge_from None (shown_in B xs ss)) (refused_at u 0) ≡ refused_at w s → FirstBad B xs ss s w
     by u zero p n f q = f p q
     by u (suc k) p n f q =
         let h : ◌≡◌ {A = Answer Dated} (refused u) (refused w) = ap (λ (r : SetAnswer). r.answer) q in

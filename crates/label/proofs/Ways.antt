@@ -12,7 +12,7 @@ use lib.ListN.{length, get_or}
 use lib.Seq.{sets}
 use Rattle.units.specs.declared.BytePlace.{BytePlace}
 use Rattle.units.specs.declared.why.Why.{Why}
-use Rattle.units.specs.Answer.{Answer, accepted, refused, refuse, plain, fine, when, if_zero, or_else, judged, settle, gives, Ends, ends}
+use Rattle.units.specs.Answer.{Answer, accepted, refused, refuse, plain, fine, when, if_zero, or_else, judged, Outcome, settle, gives, Ends, ends}
 use Rattle.units.specs.Bytes.{part, num, bytes, same}
 use Rattle.units.proofs.Chains.{number-of, else-first, else-second, none-when, judged-none, judged-some, judged-zero, settle-accepted, settle-refused}
 use Rattle.tables.specs.Lens.{tables}
@@ -60,6 +60,10 @@ when-fine t w e = rw e
 zero_or : (n : ℕ) {X : Type 0} → (n ≡ 0 → X) → ((n ≡ 0 → ⊥) → X) → X
 zero_or zero f g = f refl
 zero_or (suc n) f g = g (λ z. omega arith)
+
+-- an outcome of an answer is that of one that is the same
+pub handed-as : {A : Type 0} {o : Outcome (Answer A)} {r s : Answer A} {i : List ℕ} → r ≡ s → Ends o s i → Ends o r i
+handed-as e q = record { answer = e ∙ q.answer; image = q.image }
 
 -- ---- a partition has at least one block, so 13 bytes at its start never pass its end
 

@@ -1,7 +1,7 @@
 -- The judgement of a set of slots: one date and one style revision, or the first slot in the list's order that fails or differs from the first.
 -- From document 02, 13/13: 1, 38 an empty list, the card check's; then slot by slot 18, 23, 34, 35, 36, 37 another date or another style revision than the first
 -- slot's. A slot that is named twice is read twice, with one answer. Assumes nothing.
-use Rattle.std.specs.Prelude.{not, List, [], ◌∷◌, ℕ, eqb, length}
+use Rattle.std.specs.Prelude.{Option, Some, None, not, List, [], ◌∷◌, ℕ, eqb, length}
 use Rattle.units.specs.declared.why.Why.{Why}
 use Rattle.units.specs.Answer.{Answer, accepted, refused, refuse, plain, pick, and_then, if_zero, when, or_else}
 use Rattle.units.specs.Places.{good_size}
@@ -9,8 +9,6 @@ use Rattle.tables.specs.Lens.{Tables, tables}
 use Rattle.tables.specs.Check.{check}
 use Rattle.label.specs.declared.Label.{Label}
 use Rattle.label.specs.declared.Dated.{Dated}
-use Rattle.label.specs.declared.inner.Agreed.{Agreed}
-use Rattle.label.specs.declared.inner.Agreed.TheVariants as agreed
 use Rattle.label.specs.Labels.{dated_of, same_dated}
 use Rattle.label.specs.Calls.{read_label_answer}
 
@@ -31,18 +29,18 @@ abbrev pub refused_at : Why → ℕ → SetAnswer
 refused_at w s = record { answer = refused w; slot = s }
 
 -- the date of a slot beside the first slot's: 37
-abbrev pub agreeing : Agreed → Dated → Answer Dated
-agreeing agreed.Nothing e = accepted e
-agreeing (agreed.On d) e = pick (same_dated d e) (accepted d) (refuse 37)
+abbrev pub agreeing : Option Dated → Dated → Answer Dated
+agreeing None e = accepted e
+agreeing (Some d) e = pick (same_dated d e) (accepted d) (refuse 37)
 
 -- one slot: its own refusals, then 37. Accepted, it gives the date of the first slot, which the next slots are held against
-unfoldable pub step_answer : Agreed → Answer Label → Answer Dated
+unfoldable pub step_answer : Option Dated → Answer Label → Answer Dated
 step_answer a l = and_then l (λ (x : Label). agreeing a (dated_of x))
 
 -- where the list ends: the date, or 38 if there was no slot
-abbrev pub at_end : Agreed → SetAnswer
-at_end agreed.Nothing = refused_at (plain 38) 0
-at_end (agreed.On d) = one_date d
+abbrev pub at_end : Option Dated → SetAnswer
+at_end None = refused_at (plain 38) 0
+at_end (Some d) = one_date d
 
 -- after one slot: what is left of the list, or the refusal with that slot
 abbrev pub onward : Answer Dated → ℕ → (Dated → SetAnswer) → SetAnswer
@@ -50,9 +48,9 @@ onward (accepted d) s next = next d
 onward (refused w) s next = refused_at w s
 
 -- the slots in their order
-unfoldable pub judge_from : Agreed → List Shown → SetAnswer
+unfoldable pub judge_from : Option Dated → List Shown → SetAnswer
 judge_from a [] = at_end a
-judge_from a (x ∷ xs) = onward (step_answer a x.label) x.slot (λ (d : Dated). judge_from (agreed.On d) xs)
+judge_from a (x ∷ xs) = onward (step_answer a x.label) x.slot (λ (d : Dated). judge_from (Some d) xs)
 
 -- the slots of a list, as an image shows them
 unfoldable pub shown_in : ℕ → List ℕ → List ℕ → List Shown
@@ -69,5 +67,5 @@ set_check B n t ss =
 unfoldable pub judge_answer : ℕ → List ℕ → List ℕ → SetAnswer
 judge_answer B xs ss =
     if_zero (set_check B (length xs) (tables B xs) ss).number
-    (judge_from agreed.Nothing (shown_in B xs ss))
+    (judge_from None (shown_in B xs ss))
     (refused_at (set_check B (length xs) (tables B xs) ss) 0)

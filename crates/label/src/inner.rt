@@ -1,26 +1,13 @@
 // The leaves of the label calls: a label in its bytes, and one slot of a set beside the first. Every value goes in and out by itself, so that labels which stand in no image are judged by the
 // same leaves. No public calls.
+ghost use Rattle.units.specs.Meanings.{card_means};
 ghost use Rattle.std.specs.Prelude.{◌≡◌, ◌/◌, ◌%◌, ◌≤◌, length};
 ghost use Rattle.label.specs.Labels.{between, good_date, label_at, label_of, label_bytes, dated_of, same_dated};
 ghost use Rattle.label.specs.Judging.{agreeing, step_answer};
-ghost use Rattle.label.specs.Meanings.{label_means, step_means};
 
-use crate::{Dated, Label, LabelRead};
+use crate::{Dated, Label};
+use units::inner::Field;
 use units::{Place, Reason, Refusal};
-
-// The first slot's date and style revision, once there was a slot.
-#[derive(Clone, Copy)]
-pub enum Agreed {
-    Nothing,
-    On(Dated),
-}
-
-// What one slot comes to: the date that the next slots are held against, or why it is refused.
-#[derive(Clone, Copy)]
-pub enum Stepped {
-    Agrees(Dated),
-    Refused(Reason),
-}
 
 // 34, 35, 36, 37, which name no place.
 const BAD_MARK: Reason = Reason {
@@ -68,30 +55,30 @@ fn label_at(bytes: &[u8]) -> Label
     ensures { result ≡ label_at bytes.now }
 {
     Label {
-        year: units::inner::u16_at(bytes, 5),
+        year: u16::get(bytes, 5),
         month: bytes[7],
         day: bytes[8],
-        style: units::inner::u16_at(bytes, 9),
-        sheet: units::inner::u16_at(bytes, 11),
+        style: u16::get(bytes, 9),
+        sheet: u16::get(bytes, 11),
     }
 }
 
 // The label in the first 13 bytes: 34, 35, 36.
-pub fn label_of(bytes: &[u8]) -> LabelRead
+pub fn label_of(bytes: &[u8]) -> Result<Label, Reason>
     requires { 13 ≤ length bytes.now }
-    ensures { label_means result ≡ label_of bytes.now }
+    ensures { card_means result ≡ label_of bytes.now }
 {
     let mark = [0x46u8, 0x42, 0x4D];
     if !units::inner::same_at(bytes, 0, &mark) {
-        return LabelRead::Refused(BAD_MARK);
+        return Err(BAD_MARK);
     }
-    if units::inner::u16_at(bytes, 3) != 1 {
-        return LabelRead::Refused(UNKNOWN_VERSION);
+    if u16::get(bytes, 3) != 1 {
+        return Err(UNKNOWN_VERSION);
     }
     if !good_date(bytes[7], bytes[8]) {
-        return LabelRead::Refused(BAD_DATE);
+        return Err(BAD_DATE);
     }
-    LabelRead::Label(label_at(bytes))
+    Ok(label_at(bytes))
 }
 
 // The two bytes of a number of 16 bits.
@@ -143,42 +130,32 @@ fn dated(label: Label) -> Dated
     }
 }
 
+#[tactic(auto, unfolding(crate::specs::Labels::same_dated))]
 fn same_dated(a: Dated, b: Dated) -> bool
     ensures { result ≡ same_dated a b }
 {
-    if a.year != b.year {
-        return false;
-    }
-    if a.month != b.month {
-        return false;
-    }
-    if a.day != b.day {
-        return false;
-    }
-    a.style == b.style
+    a == b
 }
 
-// A slot's date beside the first slot's: 37 another date or another style revision.
-fn agree(agreed: Agreed, next: Dated) -> Stepped
-    ensures { step_means result ≡ agreeing agreed next }
+// A slot's date beside the first slot's, once there was a slot: 37 another date or another style revision.
+fn agree(agreed: Option<Dated>, next: Dated) -> Result<Dated, Reason>
+    ensures { card_means result ≡ agreeing agreed next }
 {
     match agreed {
-        Agreed::Nothing => Stepped::Agrees(next),
-        Agreed::On(first) => {
+        None => Ok(next),
+        Some(first) => {
             if !same_dated(first, next) {
-                return Stepped::Refused(TWO_DATES);
+                return Err(TWO_DATES);
             }
-            Stepped::Agrees(first)
+            Ok(first)
         }
     }
 }
 
 // One slot of a set: what reading its label answered (18, 23, 34, 35, 36), and then 37 beside the first slot's date.
-pub fn step(agreed: Agreed, read: LabelRead) -> Stepped
-    ensures { step_means result ≡ step_answer agreed (label_means read) }
+pub fn step(agreed: Option<Dated>, read: Result<Label, Reason>) -> Result<Dated, Reason>
+    ensures { card_means result ≡ step_answer agreed (card_means read) }
 {
-    match read {
-        LabelRead::Refused(w) => Stepped::Refused(w),
-        LabelRead::Label(label) => agree(agreed, dated(label)),
-    }
+    let label = read?;
+    agree(agreed, dated(label))
 }

@@ -11,14 +11,13 @@ ghost use Rattle.units.specs.Meanings.{card_means};
 ghost use Rattle.label.specs.Labels.{label_in};
 ghost use Rattle.label.specs.Calls.{read_label_answer, write_label_outcome};
 ghost use Rattle.label.specs.Judging.{judge_answer};
-ghost use Rattle.label.specs.Meanings.{label_means, judged_means};
+ghost use Rattle.label.specs.Meanings.{judged_means};
 
-use card::payload::Spot;
-use units::{BytePlace, CardStored, CardVerdict, Place, Reason, Refusal, Slot};
+use units::{BytePlace, Place, Reason, Refusal, Slot};
 
 // What a label tells: the map's date, its style revision and its sheet.
 #[repr(C)]
-#[derive(Clone, Copy)]
+#[derive(Clone, Copy, Debug, PartialEq, Eq)]
 pub struct Label {
     pub year: u16,
     pub month: u8,
@@ -29,7 +28,7 @@ pub struct Label {
 
 // The date and the style revision of a set.
 #[repr(C)]
-#[derive(Clone, Copy)]
+#[derive(Clone, Copy, Debug, PartialEq, Eq)]
 pub struct Dated {
     pub year: u16,
     pub month: u8,
@@ -37,33 +36,19 @@ pub struct Dated {
     pub style: u16,
 }
 
-// A label, or why there is none.
-#[derive(Clone, Copy)]
-pub enum LabelRead {
-    Label(Label),
-    Refused(Reason),
-}
-
 // Why a set is refused. By 18, 23, 34 to 37 the slot is that of the list, as it was given; by 1, 38 and the card check's it is 0.
-#[derive(Clone, Copy)]
+#[derive(Clone, Copy, Debug, PartialEq, Eq)]
 pub struct SetRefusal {
     pub reason: Reason,
     pub slot: Slot,
 }
 
-// The one date and style revision of a set, or why there is none.
-#[derive(Clone, Copy)]
-pub enum Judged {
-    One(Dated),
-    Refused(SetRefusal),
-}
-
 // The label in lent bytes, those after the 13th not looked at: 2 fewer than 13, 34 another mark, 35 another version, 36 no date.
-pub fn label_in(bytes: &[u8]) -> LabelRead
-    ensures { label_means result ≡ label_in bytes.now }
+pub fn label_in(bytes: &[u8]) -> Result<Label, Reason>
+    ensures { card_means result ≡ label_in bytes.now }
 {
     if bytes.len() < 13 {
-        return LabelRead::Refused(Reason {
+        return Err(Reason {
             what: Refusal::Short,
             place: Place::Nowhere,
         });
@@ -72,57 +57,49 @@ pub fn label_in(bytes: &[u8]) -> LabelRead
 }
 
 // The label of a slot's partition: 1, the card check's with their places, 18 no such slot, 23 unused, 34, 35, 36. A partition has at least one block, so 24 never comes.
-pub fn read_label(img: &[u8], b: u64, slot: Slot) -> LabelRead
-    ensures { label_means result ≡ read_label_answer b img.now slot.0 }
+pub fn read_label(img: &[u8], b: u64, slot: Slot) -> Result<Label, Reason>
+    ensures { card_means result ≡ read_label_answer b img.now slot.0 }
 {
     let mut bytes = [0u8; 13];
-    match card::read_payload(img, b, slot, BytePlace(0), &mut bytes) {
-        CardStored::Refused(w) => LabelRead::Refused(w),
-        CardStored::Bytes(_n) => inner::label_of(&bytes),
-    }
+    card::read_payload(img, b, slot, BytePlace(0), &mut bytes)?;
+    inner::label_of(&bytes)
 }
 
 // Writes a label at the start of a slot's partition, 13 bytes and nothing else: 1, the card check's, 18, 23, then 36 no date. It is a payload write.
-pub fn write_label(img: &mut [u8], b: u64, slot: Slot, label: Label) -> CardVerdict
+pub fn write_label(img: &mut [u8], b: u64, slot: Slot, label: Label) -> Result<(), Reason>
     ensures { Ends (write_label_outcome b img.old slot.0 label) (card_means result) img.new }
 {
-    match card::payload_place(img, b, slot, BytePlace(0), 13) {
-        Spot::Refused(w) => CardVerdict::Refused(w),
-        Spot::At(_at) => {
-            if !inner::good_date(label.month, label.day) {
-                return CardVerdict::Refused(Reason {
-                    what: Refusal::BadDate,
-                    place: Place::Nowhere,
-                });
-            }
-            let bytes = inner::label_bytes(label);
-            match card::write_payload(img, b, slot, BytePlace(0), &bytes) {
-                CardStored::Refused(w) => CardVerdict::Refused(w),
-                CardStored::Bytes(_n) => CardVerdict::Accepted,
-            }
-        }
+    card::payload_place(img, b, slot, BytePlace(0), 13)?;
+    if !inner::good_date(label.month, label.day) {
+        return Err(Reason {
+            what: Refusal::BadDate,
+            place: Place::Nowhere,
+        });
     }
+    let bytes = inner::label_bytes(label);
+    card::write_payload(img, b, slot, BytePlace(0), &bytes)?;
+    Ok(())
 }
 
 // Whether all slots of a list have one date and one style revision: 1, 38 an empty list, the card check's; then slot by slot in the list's order 18, 23, 34, 35, 36 and
 // 37, another date or revision than the first slot's. The sheet is not compared. The slots are plain numbers: the prover covers no lent slice of the tuple struct Slot.
-pub fn judge<'a>(img: &'a [u8], b: u64, slots: &'a [u32]) -> Judged
+pub fn judge<'a>(img: &'a [u8], b: u64, slots: &'a [u32]) -> Result<Dated, SetRefusal>
     ensures { judged_means result ≡ judge_answer b img.now slots.now }
 {
     if !units::good_block_size(b) {
-        return judging::no_slot(Reason {
+        return Err(judging::no_slot(Reason {
             what: Refusal::BadBlockSize,
             place: Place::Nowhere,
-        });
+        }));
     }
     if slots.len() == 0 {
-        return judging::no_slot(Reason {
+        return Err(judging::no_slot(Reason {
             what: Refusal::EmptyList,
             place: Place::Nowhere,
-        });
+        }));
     }
     match card::check(img, b) {
-        CardVerdict::Refused(w) => judging::no_slot(w),
-        CardVerdict::Accepted => judging::judge_slots(img, b, slots),
+        Err(w) => Err(judging::no_slot(w)),
+        Ok(()) => judging::judge_slots(img, b, slots),
     }
 }

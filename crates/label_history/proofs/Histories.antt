@@ -8,6 +8,7 @@ use Prim.Native.Nat.{ℕ, zero, suc, ◌+◌, ◌-◌, ◌^◌, ◌≤◌, ◌<�
 use native.Mathlib.Omega.{arith}
 use lib.ListN.{length, get_or}
 use lib.Seq.{drop-cons}
+use Rattle.units.specs.Meanings.{means}
 use Rattle.units.specs.declared.Guid.{Guid}
 use Rattle.units.specs.Held.{GuidHeld}
 use Rattle.units.specs.Answer.{Answer, accepted, refused, Outcome}

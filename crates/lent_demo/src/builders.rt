@@ -1,32 +1,36 @@
 // Builds headers of document 01's cases at the edges with a builder that is lent to each of its setters, and prints what is built.
 use crate::lent;
-use crate::say::number;
-use builder::{HeaderBuilder, HeaderBuilt};
-use console::Output;
+use builder::HeaderBuilder;
 use header::Header;
 use std::io::Write;
+use std::{fmt, io};
 use units::{Guid, Lba, Tail};
 
-fn show_header(h: Header, out: &mut Output<impl Write>) {
-    number(b" current ", h.current_lba.0, out);
-    number(b", backup ", h.backup_lba.0, out);
-    number(b", usable ", h.first_usable.0, out);
-    number(b" to ", h.last_usable.0, out);
-    number(b", array at ", h.part_start.0, out);
-    number(b", entries ", h.num_parts as u64, out);
-    number(b" of ", h.part_size as u64, out);
-    number(b", disk ", h.disk_guid.time_low as u64, out);
-    out.text(b"\n");
+// The fields of a header that a builder sets, as a line shows them.
+#[derive(Clone, Copy)]
+struct Built(Header);
+
+impl fmt::Display for Built {
+    fn fmt<W: fmt::Write>(&self, f: &mut fmt::Formatter<W>) -> fmt::Result {
+        let h = self.0;
+        let (current, backup, start) = (h.current_lba.0, h.backup_lba.0, h.part_start.0);
+        let (first, last, disk) = (h.first_usable.0, h.last_usable.0, h.disk_guid.time_low);
+        let (entries, size) = (h.num_parts, h.part_size);
+        write!(
+            f,
+            "current {current}, backup {backup}, usable {first} to {last}"
+        )?;
+        write!(
+            f,
+            ", array at {start}, entries {entries} of {size}, disk {disk}"
+        )
+    }
 }
 
-fn show_built(case: &[u8], s: HeaderBuilder, b: u64, out: &mut Output<impl Write>) {
-    out.text(case);
+fn show_built(case: &str, s: HeaderBuilder, b: u64, out: &mut impl Write) -> io::Result<()> {
     match s.build(b) {
-        HeaderBuilt::Refused(w) => {
-            number(b" refused ", w.number() as u64, out);
-            out.text(b"\n");
-        }
-        HeaderBuilt::Built(h) => show_header(h, out),
+        Err(w) => writeln!(out, "{case} refused {}", w.number()),
+        Ok(h) => writeln!(out, "{case} {}", Built(h)),
     }
 }
 
@@ -44,32 +48,20 @@ fn with_backup(lba: u64) -> HeaderBuilder {
     )
 }
 
-pub fn show(out: &mut Output<impl Write>) {
-    show_built(b"P1", with_backup(67), 512, out);
-    show_built(
-        b"P1 backup",
-        lent::primary(with_backup(67), false),
-        512,
-        out,
-    );
-    show_built(b"P3", with_backup(11), 4096, out);
-    show_built(
-        b"P3 backup",
-        lent::primary(with_backup(11), false),
-        4096,
-        out,
-    );
-    let far = lent::last_usable(with_backup(67), Lba(100));
-    show_built(b"P7", far, 512, out);
-    show_built(b"P7 backup", lent::primary(far, false), 512, out);
-    show_built(b"P8", lent::num_parts(with_backup(67), 4), 512, out);
-    show_built(b"P9", lent::num_parts(with_backup(69), 129), 512, out);
-    show_built(b"P10", lent::part_size(with_backup(67), 33554432), 512, out);
-    show_built(b"P10", lent::part_size(with_backup(67), 33554431), 512, out);
-    show_built(
-        b"first usable set",
-        lent::first_usable(with_backup(100), Lba(40)),
-        512,
-        out,
-    );
+pub fn show(out: &mut impl Write) -> io::Result<()> {
+    let p1 = with_backup(67);
+    show_built("P1", p1, 512, out)?;
+    show_built("P1 backup", lent::primary(p1, false), 512, out)?;
+    let p3 = with_backup(11);
+    show_built("P3", p3, 4096, out)?;
+    show_built("P3 backup", lent::primary(p3, false), 4096, out)?;
+    let far = lent::last_usable(p1, Lba(100));
+    show_built("P7", far, 512, out)?;
+    show_built("P7 backup", lent::primary(far, false), 512, out)?;
+    show_built("P8", lent::num_parts(p1, 4), 512, out)?;
+    show_built("P9", lent::num_parts(with_backup(69), 129), 512, out)?;
+    show_built("P10", lent::part_size(p1, 33554432), 512, out)?;
+    show_built("P10", lent::part_size(p1, 33554431), 512, out)?;
+    let late = lent::first_usable(with_backup(100), Lba(40));
+    show_built("first usable set", late, 512, out)
 }

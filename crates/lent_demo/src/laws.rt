@@ -1,16 +1,15 @@
 // Three laws over what is lent, each at one call: what the law tells of it is what the function that is written out promises.
+ghost use Rattle.units.specs.Meanings.{means};
 ghost use Rattle.std.specs.Prelude.{◌≡◌, length};
 ghost use Rattle.builder.specs.Building.{with_backup_lba};
-ghost use Rattle.partition.specs.Meanings.{count_means};
 ghost use Rattle.rows.specs.Row.{partitions_read, row_outcome, RowEnds};
 
 use builder::HeaderBuilder;
 use builder::lending::{lends, sets};
 use header::Header;
-use partition::PartitionCount;
 use rows::Entry;
 use rows::inner::{meets, plan_for};
-use units::Lba;
+use units::{Lba, Refusal};
 
 // A lent setter over a by-value method.
 pub fn set_backup_lba(h: &mut HeaderBuilder, backup_lba: Lba)
@@ -27,8 +26,13 @@ pub fn backup_lba(h: HeaderBuilder, backup_lba: Lba) -> HeaderBuilder
 }
 
 // A reading into a lent row.
-pub fn file_read_partitions(img: &[u8], h: Header, b: u64, row: &mut [Entry]) -> PartitionCount
-    ensures { RowEnds (row_outcome (partitions_read img.now h b (length row.old)) row.old) (count_means result) row.new }
+pub fn file_read_partitions(
+    img: &[u8],
+    h: Header,
+    b: u64,
+    row: &mut [Entry],
+) -> Result<u32, Refusal>
+    ensures { RowEnds (row_outcome (partitions_read img.now h b (length row.old)) row.old) (means result) row.new }
 {
     meets(img, row, |img| plan_for(img, h, b), |q| q.answer())
 }

@@ -5,29 +5,28 @@
 mod builders;
 mod laws; // laws.rt: the laws over what is lent, each at one call
 mod lent; // lent.rt: a caller for each setter
-mod say;
 
+ghost use Rattle.units.specs.Meanings.{means};
 ghost use Rattle.std.specs.Prelude.{◌≡◌, ◌≤◌};
-ghost use Rattle.partition.specs.Meanings.{count_means};
 ghost use Rattle.rows.specs.Row.{partitions_read, row_outcome, RowEnds};
 ghost use Rattle.lent_demo.specs.Marked.{marked_row};
 
-use crate::say::number;
 use console::Output;
-use header::{Header, Revision, SumFound};
-use partition::{Flags, Partition, PartitionCount};
+use header::{Header, Revision};
+use partition::{Flags, Partition};
 use rows::Entry;
+use std::io;
 use std::io::Write;
-use units::{Guid, Lba, Slot, Stored, Tail};
+use units::{Guid, Lba, Refusal, Slot, Tail};
 
 // The answer of a reading, and the row that was lent to it.
 #[derive(Clone, Copy)]
 pub struct Reading {
-    pub answer: PartitionCount,
+    pub answer: Result<u32, Refusal>,
     pub row: [Entry; 4],
 }
 
-fn reading_of(answer: PartitionCount, row: [Entry; 4]) -> Reading
+fn reading_of(answer: Result<u32, Refusal>, row: [Entry; 4]) -> Reading
     ensures { result ≡ record { answer = answer; row = row } }
 {
     Reading { answer, row }
@@ -46,44 +45,28 @@ fn marked_row() -> [Entry; 4]
 
 // Lends a marked row.
 fn read_four(img: &[u8], h: Header, b: u64) -> Reading
-    ensures { RowEnds (row_outcome (partitions_read img.now h b 4) marked_row) (count_means result.answer) result.row }
+    ensures { RowEnds (row_outcome (partitions_read img.now h b 4) marked_row) (means result.answer) result.row }
 {
     let mut row = marked_row();
     let answer = rows::file_read_partitions(img, h, b, &mut row);
     reading_of(answer, row)
 }
 
-fn show_answer(answer: PartitionCount, out: &mut Output<impl Write>) {
+fn show_answer(answer: Result<u32, Refusal>, out: &mut impl Write) -> io::Result<()> {
     match answer {
-        PartitionCount::Refused(w) => {
-            number(b"refused ", w.number() as u64, out);
-            out.text(b"\n");
-        }
-        PartitionCount::Present(n) => {
-            number(b"present ", n as u64, out);
-            out.text(b"\n");
-        }
+        Err(w) => writeln!(out, "refused {}", w.number()),
+        Ok(n) => writeln!(out, "present {n}"),
     }
 }
 
-fn show_entry(e: Entry, out: &mut Output<impl Write>) {
-    let s = e.slot;
-    let p = e.partition;
-    number(b"  ", s.0 as u64, out);
-    number(b" ", p.first_lba.0, out);
-    number(b" ", p.last_lba.0, out);
-    out.text(b"\n");
-}
-
-fn show(case: &[u8], r: Reading, out: &mut Output<impl Write>) {
-    let answer = r.answer;
-    let row = r.row;
-    out.text(case);
-    show_answer(answer, out);
-    show_entry(row[0], out);
-    show_entry(row[1], out);
-    show_entry(row[2], out);
-    show_entry(row[3], out);
+fn show(case: &str, r: Reading, out: &mut impl Write) -> io::Result<()> {
+    write!(out, "{case}: ")?;
+    show_answer(r.answer, out)?;
+    for e in r.row {
+        let (first, last) = (e.partition.first_lba.0, e.partition.last_lba.0);
+        writeln!(out, "  {} {first} {last}", e.slot.0)?;
+    }
+    Ok(())
 }
 
 // A partition of a type that only its first field tells from the nil type.
@@ -125,59 +108,47 @@ fn header_of(sum: u32) -> Header {
 // The same with the sum that the array has.
 fn header_for(img: &[u8; 2048]) -> Header {
     match header_of(0).partentry_checksum(img, 512) {
-        SumFound::Sum(sum) => header_of(sum),
-        SumFound::Refused(_w) => header_of(0),
+        Ok(sum) => header_of(sum),
+        Err(_w) => header_of(0),
     }
 }
 
 // Stores an entry in a slot of the array.
-fn put(img: &mut [u8; 2048], slot: u64, p: Partition, out: &mut Output<impl Write>)
+fn put(img: &mut [u8; 2048], slot: u64, p: Partition, out: &mut impl Write) -> io::Result<()>
     requires { 1 ≤ slot }
 {
     match p.write_to_device(img, slot - 1, Lba(2), 512, 128) {
-        Stored::Bytes(_n) => (),
-        Stored::Refused(w) => show_answer(PartitionCount::Refused(w), out),
+        Ok(_n) => Ok(()),
+        Err(w) => show_answer(Err(w), out),
     }
 }
 
 // Lends a row for one reading, and shows it.
-fn show_reading(case: &[u8], img: &[u8; 2048], h: Header, b: u64, out: &mut Output<impl Write>) {
-    show(case, read_four(img, h, b), out);
+fn show_reading(case: &str, img: &[u8], h: Header, b: u64, out: &mut impl Write) -> io::Result<()> {
+    show(case, read_four(img, h, b), out)
+}
+
+fn run(out: &mut impl Write) -> io::Result<()> {
+    builders::show(out)?;
+    let mut img = [0; 2048];
+    put(&mut img, 2, blocks(1, 34, 40), out)?;
+    put(&mut img, 5, blocks(0, 41, 41), out)?;
+    put(&mut img, 8, blocks(1, 50, 60), out)?;
+    let three = "three entries, one of the nil type";
+    show_reading(three, &img, header_for(&img), 512, out)?;
+    put(&mut img, 3, blocks(1, 61, 70), out)?;
+    let four = "four entries, which just fill the row";
+    show_reading(four, &img, header_for(&img), 512, out)?;
+    put(&mut img, 7, blocks(1, 71, 80), out)?;
+    show_reading("five entries", &img, header_for(&img), 512, out)?;
+    show_reading("another check sum", &img, header_of(0), 512, out)?;
+    show_reading("another block size", &img, header_for(&img), 1000, out)
 }
 
 fn main(rt: HostRuntime) {
     let mut out = Output::new(rt.stdout());
-    builders::show(&mut out);
-    let mut img = [0u8; 2048];
-    put(&mut img, 2, blocks(1, 34, 40), &mut out);
-    put(&mut img, 5, blocks(0, 41, 41), &mut out);
-    put(&mut img, 8, blocks(1, 50, 60), &mut out);
-    show_reading(
-        b"three entries, one of the nil type: ",
-        &img,
-        header_for(&img),
-        512,
-        &mut out,
-    );
-    put(&mut img, 3, blocks(1, 61, 70), &mut out);
-    show_reading(
-        b"four entries, which just fill the row: ",
-        &img,
-        header_for(&img),
-        512,
-        &mut out,
-    );
-    put(&mut img, 7, blocks(1, 71, 80), &mut out);
-    show_reading(b"five entries: ", &img, header_for(&img), 512, &mut out);
-    show_reading(b"another check sum: ", &img, header_of(0), 512, &mut out);
-    show_reading(
-        b"another block size: ",
-        &img,
-        header_for(&img),
-        1000,
-        &mut out,
-    );
-    if !out.is_ok() {
-        console::complain(&mut rt.stderr(), b"lent_demo: cannot write the output\n");
+    let ended = run(&mut out);
+    if let Some(failure) = out.failure(&ended) {
+        let _ = eprintln!(rt; "lent_demo: {failure}");
     }
 }

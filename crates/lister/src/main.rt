@@ -3,7 +3,7 @@
 // Input that cannot be read and output that cannot be written are said on standard error, and are no verdict.
 #![tactic(auto)]
 
-ghost use Rattle.std.specs.Prelude.{◌≡◌, false, ◌-◌, length};
+ghost use Rattle.std.specs.Prelude.{◌≡◌, false, ◌-◌, length, IfOk};
 ghost use Rattle.partition.specs.Array.{present};
 ghost use Rattle.tables.specs.Lens.{tables};
 ghost use Rattle.tables.specs.Check.{room_check};
@@ -11,103 +11,85 @@ ghost use Rattle.tables.specs.Check.{bad_slot};
 ghost use Rattle.listing.specs.Listing.{present_slots};
 
 use console::Output;
-use partition::{Length, Partition};
+use partition::Partition;
+use std::io;
 use std::io::{Read, Write};
-use units::{CardVerdict, Slot};
+use units::Slot;
 
-// A word, a number and the end of the line.
-fn say(word: &[u8], n: u64, out: &mut Output<impl Write>) {
-    out.text(word);
-    out.decimal(n);
-    out.text(b"\n");
-}
+const USAGE: &str =
+    "usage: lister < IMAGE (blocks of 512 bytes, 65,536 bytes at most; the exit status is always 0, so read what is printed)\n";
+
+// How many bytes the longest image has.
+const LONGEST: usize = 65536;
 
 // A slot's line: the slot, its first and last block, and how many blocks it has. Past the card check a partition always has a count.
-fn print_line(slot: Slot, p: Partition, out: &mut Output<impl Write>) {
-    out.decimal(slot.0 as u64);
-    out.text(b" ");
-    out.decimal(p.first_lba.0);
-    out.text(b" ");
-    out.decimal(p.last_lba.0);
+fn print_line(slot: Slot, p: Partition, out: &mut impl Write) -> io::Result<()> {
+    let (slot, first, last) = (slot.0, p.first_lba.0, p.last_lba.0);
+    write!(out, "{slot} {first} {last} ")?;
     match p.sectors_len() {
-        Length::Count(n) => say(b" ", n, out),
-        Length::Refused(w) => say(b" refused ", w.number() as u64, out),
+        Ok(n) => writeln!(out, "{n}"),
+        Err(w) => writeln!(out, "refused {}", w.number()),
     }
 }
 
 // The line of a slot, if it is used; whether it is.
-fn print_slot(img: &[u8], slot: Slot, out: &mut Output<impl Write>) -> bool
+fn print_slot(img: &[u8], slot: Slot, out: &mut impl Write) -> io::Result<bool>
     requires { ((room_check 512 (length img.now)).number ≡ 0) × (bad_slot slot.0 ≡ false) }
-    ensures { result ≡ present (tables 512 img.now).front.array 0 (slot.0 - 1) }
+    ensures { IfOk result (λ used. used ≡ present (tables 512 img.now).front.array 0 (slot.0 - 1)) }
 {
-    let used = listing::inner::slot_present(img, 512, slot);
-    if used {
-        print_line(slot, listing::inner::slot_entry(img, 512, slot), out);
+    match listing::inner::slot_found(img, 512, slot) {
+        None => Ok(false),
+        Some(p) => {
+            print_line(slot, p, out)?;
+            Ok(true)
+        }
     }
-    used
 }
 
 // The lines of the used slots, ascending; how many they are. That it is the card's count says that no slot was passed over.
-fn print_slots(img: &[u8], out: &mut Output<impl Write>) -> u32
+fn print_slots(img: &[u8], out: &mut impl Write) -> io::Result<u32>
     requires { (room_check 512 (length img.now)).number ≡ 0 }
-    ensures { result ≡ length (present_slots (tables 512 img.now)) }
+    ensures { IfOk result (λ lines. lines ≡ length (present_slots (tables 512 img.now))) }
 {
     let mut lines = 0;
     for place in 0..128 {
-        if print_slot(img, units::inner::slot_at(place), out) {
+        let used = print_slot(img, units::inner::slot_at(place), out)?;
+        if used {
             lines += 1;
         }
     }
-    lines
+    Ok(lines)
 }
 
-fn list(img: &[u8], out: &mut Output<impl Write>) {
+fn list(img: &[u8], out: &mut impl Write) -> io::Result<()> {
     match card::check(img, 512) {
-        CardVerdict::Refused(w) => {
-            let what = w.what;
-            say(b"refused ", what.number() as u64, out)
-        }
-        CardVerdict::Accepted => {
-            out.text(b"slot first last blocks\n");
-            let lines = print_slots(img, out);
-            say(b"used ", lines as u64, out);
+        Err(w) => writeln!(out, "refused {}", w.what.number()),
+        Ok(()) => {
+            writeln!(out, "slot first last blocks")?;
+            let lines = print_slots(img, out)?;
+            writeln!(out, "used {lines}")
         }
     }
-}
-
-// One byte more than the longest image.
-fn space() -> [u8; 65537] {
-    [0; 65537]
 }
 
 // Reads the image to its end before anything is printed.
-fn run(input: &mut impl Read, out: &mut Output<impl Write>, errors: &mut impl Write) {
-    let mut buf = space();
-    match console::read_input(input, &mut buf) {
-        Err(_) => console::complain(errors, b"lister: cannot read the input\n"),
-        Ok(n) => {
-            if 65536 < n {
-                out.text(b"too long\n");
-            } else {
-                list(&buf[..n], out);
-            }
-        }
+fn run(rt: &HostRuntime, out: &mut Output<io::Stdout>) -> io::Result<()> {
+    if !console::no_arguments(rt, USAGE.as_bytes(), out, &mut rt.stderr()) {
+        return Ok(());
     }
+    let mut image = Vec::new(rt.alloc());
+    rt.stdin().take(LONGEST as u64 + 1).read_to_end(&mut image)?;
+    if image.len() > LONGEST {
+        return writeln!(out, "too long");
+    }
+    list(&image, out)
 }
 
 // The exit status is always 0, as the usage line says.
 fn main(rt: HostRuntime) {
     let mut out = Output::new(rt.stdout());
-    let mut errors = rt.stderr();
-    if console::no_arguments(
-        &rt,
-        b"usage: lister < IMAGE (blocks of 512 bytes, 65,536 bytes at most; the exit status is always 0, so read what is printed)\n",
-        &mut out,
-        &mut errors,
-    ) {
-        run(&mut rt.stdin(), &mut out, &mut errors);
-    }
-    if !out.is_ok() {
-        console::complain(&mut errors, b"lister: cannot write the output\n");
+    let ended = run(&rt, &mut out);
+    if let Some(failure) = out.failure(&ended) {
+        let _ = eprintln!(rt; "lister: {failure}");
     }
 }

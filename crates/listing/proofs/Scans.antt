@@ -46,14 +46,10 @@ module _ (B n : ℕ) (xs : List ℕ) where
   pub present-in-image : (k : ℕ) → k < 128 → present (tables_at B n xs).front.array 0 k ≡ present xs (B + B) k
   present-in-image k h = ap (λ (l : List ℕ). not (all_zero l)) (bytes-in-image k h)
 
-  -- the slots after a slot, and the first of them
+  -- the slots after a slot
   pub after-in-image : (after : ℕ) → present_from (tables_at B n xs).front.array 0 after (128 - after) ≡ present_from xs (B + B) after (128 - after)
   after-in-image after =
       from-same (tables_at B n xs).front.array xs 0 (B + B) after (128 - after) (λ j p q. present-in-image j (omega arith))
-
-  pub first-in-image : (after : ℕ) → first_slot (tables_at B n xs).front.array 0 128 after ≡ first_slot xs (B + B) 128 after
-  unfolding first_slot
-  first-in-image after = ap (λ (l : List ℕ). get_or l 0 0) (after-in-image after)
 
   -- all slots
   pub slots-in-image : present_slots (tables_at B n xs) ≡ present_from xs (B + B) 0 128

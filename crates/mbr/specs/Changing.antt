@@ -3,6 +3,7 @@ use Rattle.std.specs.Prelude.{List, ℕ, leb, get_or, set}
 use Rattle.units.specs.Answer.{Answer, accepted, refuse, pick, Beside, beside}
 use Rattle.mbr.specs.declared.PartRecord.{PartRecord}
 use Rattle.mbr.specs.declared.ProtectiveMbr.{ProtectiveMbr}
+use Rattle.mbr.specs.declared.Changed.{Changed}
 use Rattle.mbr.specs.Format.{zero_record}
 
 abbrev pub with_bootcode : ProtectiveMbr → List ℕ → ProtectiveMbr
@@ -15,11 +16,6 @@ with_signature m sign =
 
 unfoldable pub record_taken : ProtectiveMbr → ℕ → Answer PartRecord
 record_taken m place = pick (leb 4 place) (refuse 18) (accepted (get_or m.partitions place zero_record))
-
--- the record that stood there, and the MBR with the new one
-pub record Changed : Type 0 where
-  pub old : PartRecord
-  pub mbr : ProtectiveMbr
 
 unfoldable pub record_set : ProtectiveMbr → ℕ → PartRecord → Answer Changed
 record_set m place p =

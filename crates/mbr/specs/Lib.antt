@@ -3,5 +3,4 @@ pub mod Format
 pub mod Parsing
 pub mod Changing
 pub mod Storing
-pub mod Meanings
 pub mod MbrExamples

@@ -3,12 +3,13 @@ ghost use Rattle.std.specs.Prelude.{◌≡◌, List, ◌+◌, ◌≤◌, length}
 ghost use Rattle.std.proofs.lemmas.List.Edits.{sets};
 ghost use Rattle.units.specs.Answer.{Ends};
 ghost use Rattle.units.specs.Bytes.{part};
-ghost use Rattle.units.specs.Meanings.{stored_means};
-ghost use Rattle.mbr.specs.Format.{record_at, record_bytes, records_bytes, tail_bytes, mbr_at, fresh};
+ghost use Rattle.units.specs.Meanings.{means};
+ghost use Rattle.mbr.specs.Format.{record_at, record_bytes, records_bytes, tail_bytes, mbr_at};
 ghost use Rattle.mbr.specs.Storing.{bytes_stored};
 
-use crate::{MbrRead, PartRecord, ProtectiveMbr};
-use units::{BytePlace, Refusal, Stored, Verdict};
+use crate::{PartRecord, ProtectiveMbr};
+use units::inner::Field;
+use units::{BytePlace, Refusal};
 
 // The record in the 16 bytes at place at.
 pub fn record_at(s: &[u8], at: usize) -> PartRecord
@@ -24,8 +25,8 @@ pub fn record_at(s: &[u8], at: usize) -> PartRecord
         end_head: s[at + 5],
         end_sector: s[at + 6],
         end_track: s[at + 7],
-        lb_start: units::inner::u32_at(s, at + 8),
-        lb_size: units::inner::u32_at(s, at + 12),
+        lb_start: u32::get(s, at + 8),
+        lb_size: u32::get(s, at + 12),
     }
 }
 
@@ -45,31 +46,28 @@ pub fn put_record(s: &mut [u8], at: usize, p: PartRecord)
         p.end_track,
     ];
     units::inner::put_bytes(s, at, &b);
-    units::inner::put_num(s, at + 8, 4, p.lb_start as u64);
-    units::inner::put_num(s, at + 12, 4, p.lb_size as u64);
+    p.lb_start.put(s, at + 8);
+    p.lb_size.put(s, at + 12);
 }
 
 // All of src, stored at place at: 2.
-pub fn store_bytes(s: &mut [u8], at: usize, src: &[u8]) -> Stored
-    ensures { Ends (bytes_stored s.old at src.now) (stored_means result) s.new }
+pub fn store_bytes(s: &mut [u8], at: usize, src: &[u8]) -> Result<usize, Refusal>
+    ensures { Ends (bytes_stored s.old at src.now) (means result) s.new }
 {
     let n = src.len();
     if !units::is_inside(s.len(), BytePlace(at), n) {
-        return Stored::Refused(Refusal::Short);
+        return Err(Refusal::Short);
     }
     units::inner::put_bytes(s, at, src);
-    Stored::Bytes(n)
+    Ok(n)
 }
 
 fn put_records(s: &mut [u8], at: usize, records: [PartRecord; 4])
     requires { at + 64 ≤ length s.old }
     ensures { s.new ≡ sets s.old at (records_bytes records) }
 {
-    let mut i = 0;
-    while i < 4 {
-        let p = records[i];
-        put_record(s, at + 16 * i, p);
-        i += 1;
+    for (i, p) in records.iter().enumerate() {
+        put_record(s, at + 16 * i, *p);
     }
 }
 
@@ -91,7 +89,7 @@ pub fn mbr_at(s: &[u8], at: usize) -> ProtectiveMbr
     units::inner::copy_out(&mut bootcode, s, at);
     let mut disk_signature = [0; 4];
     units::inner::copy_out(&mut disk_signature, s, at + 440);
-    let unknown = units::inner::u16_at(s, at + 444);
+    let unknown = u16::get(s, at + 444);
     let partitions = [
         record_at(s, at + 446),
         record_at(s, at + 462),
@@ -103,15 +101,5 @@ pub fn mbr_at(s: &[u8], at: usize) -> ProtectiveMbr
         disk_signature,
         unknown,
         partitions,
-    }
-}
-
-// A refusal has no MBR of its own: the new one stands there.
-pub fn no_mbr(w: Refusal) -> MbrRead
-    ensures { result ≡ record { verdict = Verdict.Refused w; mbr = fresh 0xFFFFFFFF } }
-{
-    MbrRead {
-        verdict: Verdict::Refused(w),
-        mbr: ProtectiveMbr::new(),
     }
 }

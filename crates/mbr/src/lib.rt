@@ -6,18 +6,18 @@ pub mod inner;
 
 ghost use Rattle.std.specs.Prelude.{◌≡◌, length};
 ghost use Rattle.units.specs.Answer.{Ends};
-ghost use Rattle.units.specs.Meanings.{stored_means};
+ghost use Rattle.units.specs.Meanings.{means};
 ghost use Rattle.mbr.specs.Format.{record_bytes, mbr_bytes, protective, zero_record, fresh};
-ghost use Rattle.mbr.specs.Parsing.{record_parsed, mbr_parsed, image_parsed, parsed_of, bytes_read, bytes_of};
-ghost use Rattle.mbr.specs.Changing.{with_bootcode, with_signature, record_taken, record_set, set_of};
+ghost use Rattle.mbr.specs.Parsing.{record_parsed, mbr_parsed, image_parsed, bytes_read};
+ghost use Rattle.mbr.specs.Changing.{with_bootcode, with_signature, record_taken, record_set};
 ghost use Rattle.mbr.specs.Storing.{whole_stored, tail_stored, bytes_stored};
-ghost use Rattle.mbr.specs.Meanings.{record_means, mbr_means, set_means, bootcode_means, signature_means};
 
-use units::{Refusal, Stored, Verdict};
+use units::Refusal;
+use units::inner::Field;
 
 // A partition record of 16 bytes, by its fields.
 #[repr(C)]
-#[derive(Clone, Copy)]
+#[derive(Clone, Copy, Debug, PartialEq, Eq)]
 pub struct PartRecord {
     pub boot_indicator: u8,
     pub start_head: u8,
@@ -33,7 +33,7 @@ pub struct PartRecord {
 
 // The MBR by its fields (UEFI 2.10, 5.2.3). The bytes 55 AA are no field: they are compared on parsing and stored on writing.
 #[repr(C)]
-#[derive(Clone, Copy)]
+#[derive(Clone, Copy, Debug, PartialEq, Eq)]
 pub struct ProtectiveMbr {
     pub bootcode: [u8; 440],
     pub disk_signature: [u8; 4],
@@ -41,39 +41,11 @@ pub struct ProtectiveMbr {
     pub partitions: [PartRecord; 4],
 }
 
-#[derive(Clone, Copy)]
-pub enum RecordRead {
-    Read(PartRecord),
-    Refused(Refusal),
-}
-
-// The verdict and the MBR; a refusal has the new protective MBR.
-#[derive(Clone, Copy)]
-pub struct MbrRead {
-    pub verdict: Verdict,
-    pub mbr: ProtectiveMbr,
-}
-
-// The verdict, the record that stood there, and the MBR with the new one. A refusal has the zero record and the MBR as it was.
-#[derive(Clone, Copy)]
-pub struct RecordSet {
-    pub verdict: Verdict,
+// What setting a record gives: the record that stood there, and the MBR with the new one.
+#[derive(Clone, Copy, Debug, PartialEq, Eq)]
+pub struct Changed {
     pub old: PartRecord,
     pub mbr: ProtectiveMbr,
-}
-
-// The verdict and the boot code; a refusal has zeros.
-#[derive(Clone, Copy)]
-pub struct BootcodeRead {
-    pub verdict: Verdict,
-    pub bootcode: [u8; 440],
-}
-
-// The verdict and the disk signature; a refusal has zeros.
-#[derive(Clone, Copy)]
-pub struct SignatureRead {
-    pub verdict: Verdict,
-    pub disk_signature: [u8; 4],
 }
 
 impl PartRecord {
@@ -113,13 +85,13 @@ impl PartRecord {
     }
 
     // The record in a buffer of 16 bytes: 14.
-    pub fn from_bytes(buf: &[u8]) -> RecordRead
-        ensures { record_means result ≡ record_parsed buf.now }
+    pub fn from_bytes(buf: &[u8]) -> Result<PartRecord, Refusal>
+        ensures { means result ≡ record_parsed buf.now }
     {
         if buf.len() != 16 {
-            return RecordRead::Refused(Refusal::InvalidPartitionLength);
+            return Err(Refusal::InvalidPartitionLength);
         }
-        RecordRead::Read(inner::record_at(buf, 0))
+        Ok(inner::record_at(buf, 0))
     }
 
     pub fn to_bytes(self) -> [u8; 16]
@@ -157,34 +129,31 @@ impl ProtectiveMbr {
     }
 
     // The MBR in a buffer of one block: 1, 12, 13.
-    pub fn from_bytes(buf: &[u8], b: u64) -> MbrRead
-        ensures { mbr_means result ≡ parsed_of (mbr_parsed buf.now b) }
+    pub fn from_bytes(buf: &[u8], b: u64) -> Result<ProtectiveMbr, Refusal>
+        ensures { means result ≡ mbr_parsed buf.now b }
     {
         if !units::good_block_size(b) {
-            return inner::no_mbr(Refusal::BadBlockSize);
+            return Err(Refusal::BadBlockSize);
         }
         if buf.len() as u64 != b {
-            return inner::no_mbr(Refusal::InvalidMBRLength);
+            return Err(Refusal::InvalidMBRLength);
         }
         if !units::inner::same_at(buf, 510, b"\x55\xAA") {
-            return inner::no_mbr(Refusal::InvalidMBRSignature);
+            return Err(Refusal::InvalidMBRSignature);
         }
-        MbrRead {
-            verdict: Verdict::Accepted,
-            mbr: inner::mbr_at(buf, 0),
-        }
+        Ok(inner::mbr_at(buf, 0))
     }
 
     // The MBR in block 0 of an image: 1, 2, 13.
-    pub fn from_image(img: &[u8], b: u64) -> MbrRead
-        ensures { mbr_means result ≡ parsed_of (image_parsed img.now b) }
+    pub fn from_image(img: &[u8], b: u64) -> Result<ProtectiveMbr, Refusal>
+        ensures { means result ≡ image_parsed img.now b }
     {
         if !units::good_block_size(b) {
-            return inner::no_mbr(Refusal::BadBlockSize);
+            return Err(Refusal::BadBlockSize);
         }
         let size = b as usize;
         if img.len() < size {
-            return inner::no_mbr(Refusal::Short);
+            return Err(Refusal::Short);
         }
         ProtectiveMbr::from_bytes(&img[..size], b)
     }
@@ -199,7 +168,7 @@ impl ProtectiveMbr {
         let mut out = [0; 512];
         units::inner::put_bytes(&mut out, 0, &boot);
         units::inner::put_bytes(&mut out, 440, &signature);
-        units::inner::put_num(&mut out, 444, 2, self.unknown as u64);
+        self.unknown.put(&mut out, 444);
         inner::put_tail(&mut out, 446, records);
         out
     }
@@ -233,107 +202,87 @@ impl ProtectiveMbr {
     }
 
     // The record at a place from 0 to 3: 18.
-    pub fn partition(self, place: usize) -> RecordRead
-        ensures { record_means result ≡ record_taken self place }
+    pub fn partition(self, place: usize) -> Result<PartRecord, Refusal>
+        ensures { means result ≡ record_taken self place }
     {
         if 4 <= place {
-            return RecordRead::Refused(Refusal::BadSlot);
+            return Err(Refusal::BadSlot);
         }
         let records = self.partitions;
-        RecordRead::Read(records[place])
+        Ok(records[place])
     }
 
     // The MBR with a record set at a place from 0 to 3, and the record that stood there: 18.
-    pub fn set_partition(mut self, place: usize, partition: PartRecord) -> RecordSet
-        ensures { set_means result ≡ set_of self (record_set self place partition) }
+    pub fn set_partition(mut self, place: usize, partition: PartRecord) -> Result<Changed, Refusal>
+        ensures { means result ≡ record_set self place partition }
     {
         if 4 <= place {
-            return RecordSet {
-                verdict: Verdict::Refused(Refusal::BadSlot),
-                old: PartRecord::zero(),
-                mbr: self,
-            };
+            return Err(Refusal::BadSlot);
         }
         let old = self.partitions[place];
         self.partitions[place] = partition;
-        RecordSet {
-            verdict: Verdict::Accepted,
-            old,
-            mbr: self,
-        }
+        Ok(Changed { old, mbr: self })
     }
 
     // Stores the MBR over bytes 0 to 511: 2.
-    pub fn overwrite_lba0(self, img: &mut [u8]) -> Stored
-        ensures { Ends (whole_stored img.old self) (stored_means result) img.new }
+    pub fn overwrite_lba0(self, img: &mut [u8]) -> Result<usize, Refusal>
+        ensures { Ends (whole_stored img.old self) (means result) img.new }
     {
         if img.len() < 512 {
-            return Stored::Refused(Refusal::Short);
+            return Err(Refusal::Short);
         }
         let bytes = self.to_bytes();
         units::inner::put_bytes(img, 0, &bytes);
-        Stored::Bytes(512)
+        Ok(512)
     }
 
     // Stores the four records and 55 AA over bytes 446 to 511: 2.
-    pub fn update_conservative(self, img: &mut [u8]) -> Stored
-        ensures { Ends (tail_stored img.old self) (stored_means result) img.new }
+    pub fn update_conservative(self, img: &mut [u8]) -> Result<usize, Refusal>
+        ensures { Ends (tail_stored img.old self) (means result) img.new }
     {
         if img.len() < 512 {
-            return Stored::Refused(Refusal::Short);
+            return Err(Refusal::Short);
         }
         let records = self.partitions;
         inner::put_tail(img, 446, records);
-        Stored::Bytes(66)
+        Ok(66)
     }
 }
 
 // The 440 bytes of boot code of an image: 2.
-pub fn read_bootcode(img: &[u8]) -> BootcodeRead
-    ensures { bootcode_means result ≡ bytes_of 440 (bytes_read img.now 0 440) }
+pub fn read_bootcode(img: &[u8]) -> Result<[u8; 440], Refusal>
+    ensures { means result ≡ bytes_read img.now 0 440 }
 {
-    let mut bootcode = [0; 440];
     if img.len() < 440 {
-        return BootcodeRead {
-            verdict: Verdict::Refused(Refusal::Short),
-            bootcode,
-        };
+        return Err(Refusal::Short);
     }
+    let mut bootcode = [0; 440];
     units::inner::copy_out(&mut bootcode, img, 0);
-    BootcodeRead {
-        verdict: Verdict::Accepted,
-        bootcode,
-    }
+    Ok(bootcode)
 }
 
 // Stores boot code over bytes 0 to 439 of an image: 2.
-pub fn write_bootcode(img: &mut [u8], bootcode: &[u8; 440]) -> Stored
-    ensures { Ends (bytes_stored img.old 0 bootcode.now) (stored_means result) img.new }
+pub fn write_bootcode(img: &mut [u8], bootcode: &[u8; 440]) -> Result<usize, Refusal>
+    ensures { Ends (bytes_stored img.old 0 bootcode.now) (means result) img.new }
 {
     inner::store_bytes(img, 0, bootcode)
 }
 
 // The 4 bytes of disk signature of an image: 2.
-pub fn read_disk_signature(img: &[u8]) -> SignatureRead
-    ensures { signature_means result ≡ bytes_of 4 (bytes_read img.now 440 4) }
+pub fn read_disk_signature(img: &[u8]) -> Result<[u8; 4], Refusal>
+    ensures { means result ≡ bytes_read img.now 440 4 }
 {
-    let mut disk_signature = [0; 4];
     if img.len() < 444 {
-        return SignatureRead {
-            verdict: Verdict::Refused(Refusal::Short),
-            disk_signature,
-        };
+        return Err(Refusal::Short);
     }
+    let mut disk_signature = [0; 4];
     units::inner::copy_out(&mut disk_signature, img, 440);
-    SignatureRead {
-        verdict: Verdict::Accepted,
-        disk_signature,
-    }
+    Ok(disk_signature)
 }
 
 // Stores a disk signature over bytes 440 to 443 of an image: 2.
-pub fn write_disk_signature(img: &mut [u8], disk_signature: &[u8; 4]) -> Stored
-    ensures { Ends (bytes_stored img.old 440 disk_signature.now) (stored_means result) img.new }
+pub fn write_disk_signature(img: &mut [u8], disk_signature: &[u8; 4]) -> Result<usize, Refusal>
+    ensures { Ends (bytes_stored img.old 440 disk_signature.now) (means result) img.new }
 {
     inner::store_bytes(img, 440, disk_signature)
 }

@@ -1,15 +1,13 @@
 -- Laws of the words: the slot in brackets, and how long a message is. Assumes nothing.
 use mathlib.Core.Path.{◌≡◌, refl, sym}
 use mathlib.Core.List.{List, [], ◌∷◌, ◌++◌}
-use Prim.Native.Nat.{ℕ, ◌+◌, ◌≤◌, ◌<◌}
+use Prim.Native.Nat.{ℕ, ◌+◌, ◌≤◌}
 use native.Mathlib.Omega.{arith}
-use mathlib.Core.Bool.{true}
 use lib.ListN.{length, take, set, length-append}
 use lib.Seq.{sets}
 use Rattle.units.proofs.Lists.{and_then, part_same}
 use Rattle.text.specs.Texts.{ascii}
-use Rattle.message.specs.Words.{first_texts, later_texts, placed_texts, text_at, decimal, bracketed, slot_words}
-use Rattle.message.proofs.LineLaws.{good}
+use Rattle.message.specs.Words.{text_at, decimal, bracketed, slot_words}
 
 pub length-bracketed : (slot : ℕ) → length (bracketed slot) ≡ 7 + length (decimal slot) + 1
 length-bracketed slot = rw (length-append (decimal slot) (41 ∷ [])) (omega arith)
@@ -20,32 +18,6 @@ pub bracket-stored : (s : List ℕ) (at slot : ℕ) {s₁ s₂ : List ℕ} {end 
 bracket-stored s at slot {s₁} {s₂} {end} h e f =
     and_then s at (ascii " (slot ") (at + 7) (decimal slot ++ (41 ∷ [])) refl e
     (and_then s₁ (at + 7) (decimal slot) end (41 ∷ []) (sym h) f refl)
-
--- ---- the three tables: every text is one line and short
-
-pub first_good : good first_texts ≡ true
-unfolding first_texts
-first_good = refl
-
-pub later-good : good later_texts ≡ true
-unfolding later_texts
-later-good = refl
-
-pub placed-good : good placed_texts ≡ true
-unfolding placed_texts
-placed-good = refl
-
-pub first-long : {k : ℕ} → k < 21 → k < length first_texts
-unfolding first_texts
-first-long h = h
-
-pub later-long : {k : ℕ} → k < 21 → k < length later_texts
-unfolding later_texts
-later-long h = h
-
-pub placed-long : {k : ℕ} → k < 10 → k < length placed_texts
-unfolding placed_texts
-placed-long h = h
 
 -- ---- a line and the slot behind it
 

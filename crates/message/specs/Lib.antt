@@ -1,4 +1,3 @@
 -- The definitions that the contracts of `message` cite.
-pub mod Lines
 pub mod Words
 pub mod Examples

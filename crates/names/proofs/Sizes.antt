@@ -30,6 +30,8 @@ one-count v h = rw (one_unit v h)
 pub two-count : (v : ℕ) → 65536 ≤ v → 2 ≡ length (units_of v)
 two-count v h = rw (two-units v h)
 
+pub ruleset unit_counts = (one-count, two-count)
+
 pub put_one : (s : List ℕ) (k v : ℕ) → v < 65536 → set s k v ≡ sets s k (units_of v)
 put_one s k v h = rw (one_unit v h)
 
@@ -65,6 +67,8 @@ count-3 v h k = rw (three-bytes v h k)
 
 pub count-4 : (v : ℕ) → 65536 ≤ v → 4 ≡ length (utf8_of v)
 count-4 v h = rw (four_bytes v h)
+
+pub ruleset byte_counts = (count-1, count-2, count-3, count-4)
 
 module _ (s : List ℕ) (n v : ℕ) where
   one_more : n + 1 ≡ suc n

@@ -5,10 +5,9 @@ use mathlib.Core.List.{List}
 use Prim.Native.Nat.{ℕ, ◌+◌, ◌*◌, ◌-◌, ◌%◌, ◌≤◌, ◌<◌}
 use native.Mathlib.Omega.{arith}
 use borrow.Author.Tests.{lt-ltb, le-ltb, le-leb, lt-leb, eq-eqb, ne_eqb, not-true, not-false}
-use lib.ListN.{length, get_or, get_or-eq_default}
+use lib.ListN.{length, get_or}
 use Rattle.names.specs.declared.inner.Scalar.{Scalar}
-use Rattle.text.specs.Ranges.{between}
-use Rattle.names.specs.Utf8.{no_scalar, replacement, surrogate, continues, size_of, in_range, of_two, of_three, of_four, scalar_at, point_of}
+use Rattle.names.specs.Utf8.{no_scalar, surrogate, continues, size_of, in_range, of_two, of_three, of_four, scalar_at, point_of}
 use Rattle.names.specs.NameTexts.{unit_at}
 
 -- what the test `!f(..)` says of the definition's
@@ -120,10 +119,6 @@ pub unit-past : (name : List ℕ) (i : ℕ) → 36 ≤ i → 0 ≡ unit_at name 
 unfolding unit_at
 unit-past name i h = rw (le-leb 36 i h)
 
-pub unit-none : (name : List ℕ) (i : ℕ) → i < 36 → length name ≤ i → 0 ≡ unit_at name i
-unfolding unit_at
-unit-none name i h k = rw (lt-leb 36 i h) (sym (get_or-eq_default name 0 k))
-
 pub unit-here : (name : List ℕ) (i : ℕ) → i < 36 → get_or name i 0 ≡ unit_at name i
 unfolding unit_at
 unit-here name i h = rw (lt-leb 36 i h)
@@ -132,17 +127,3 @@ module _ {t : Bool} (u w : ℕ) (p : t ≡ surrogate u) where
   pub point-plain : not t ≡ true → record { size = 1; code = u } ≡ point_of u w
   unfolding point_of
   point-plain q = rw (off p q)
-
-  module _ (q : not t ≡ false) {h : Bool} (p₂ : h ≡ between 0xD800 u 0xDBFF) where
-    pub point-low : {r : Scalar} → not h ≡ true → r ≡ replacement → r ≡ point_of u w
-    unfolding point_of
-    point-low q₂ z = rw (on p q, off p₂ q₂) z
-
-    module _ (q₂ : not h ≡ false) {l : Bool} (p₃ : l ≡ between 0xDC00 w 0xDFFF) where
-      pub point-high : {r : Scalar} → not l ≡ true → r ≡ replacement → r ≡ point_of u w
-      unfolding point_of
-      point-high q₃ z = rw (on p q, on p₂ q₂, off p₃ q₃) z
-
-      pub point-pair : not l ≡ false → record { size = 2; code = 0x10000 + u % 1024 * 1024 + w % 1024 } ≡ point_of u w
-      unfolding point_of
-      point-pair q₃ = rw (on p q, on p₂ q₂, on p₃ q₃)

@@ -38,25 +38,17 @@ pub fn replaced() -> Scalar
 }
 
 // How many bytes a character takes, by its first byte; 0 where none begins with it.
+#[tactic(auto, using(units::proofs::Laws::tests), unfolding(crate::specs::Utf8::size_of))]
 pub fn size_of(c: u8) -> usize
     ensures { result ≡ size_of c }
 {
-    if c < 128 {
-        return 1;
+    match c {
+        0..=127 => 1,
+        192..=223 => 2,
+        224..=239 => 3,
+        240..=247 => 4,
+        _ => 0,
     }
-    if c < 192 {
-        return 0;
-    }
-    if c < 224 {
-        return 2;
-    }
-    if c < 240 {
-        return 3;
-    }
-    if c < 248 {
-        return 4;
-    }
-    0
 }
 
 // A value that was read from `size` bytes, unless fewer bytes hold it, or it is a surrogate, or past the last.
@@ -148,13 +140,11 @@ pub fn scalar_at(text: &[u8], at: usize) -> Scalar
 }
 
 // How many UTF-16 units a scalar value takes.
+#[tactic(auto, using(crate::proofs::Sizes::unit_counts))]
 pub fn unit_count(code: u32) -> usize
     ensures { (result ≡ length (units_of code)) × (result ≤ 2) }
 {
-    if code < 65536 {
-        return 1;
-    }
-    2
+    if code < 65536 { 1 } else { 2 }
 }
 
 // The units of a scalar value, stored at place k of a name.
@@ -183,36 +173,31 @@ pub fn refused(number: u32, at: usize) -> NameOfText
 }
 
 // The unit at place i of a name; zero where it has none, and from place 36 on.
+#[tactic(auto, using(units::proofs::Laws::tests), unfolding(crate::specs::NameTexts::unit_at))]
 pub fn unit_at(name: &[u16], i: usize) -> u16
     ensures { result ≡ unit_at name.now i }
 {
     if 36 <= i {
         return 0;
     }
-    if name.len() <= i {
-        return 0;
-    }
-    name[i]
+    name.get(i).copied().unwrap_or(0)
 }
 
 // What a unit u stands for, with the unit w behind it: a pair, or U+FFFD for a surrogate that has no partner, or u itself.
+#[tactic(auto, using(units::proofs::Laws::tests), unfolding(crate::specs::Utf8::point_of, text::specs::Ranges::between))]
 pub fn point_of(u: u16, w: u16) -> Scalar
     ensures { result ≡ point_of u w }
 {
-    let x = u as u32;
-    let y = w as u32;
-    if !is_between(0xD800, x, 0xDFFF) {
-        return Scalar { size: 1, code: x };
-    }
-    if !is_between(0xD800, x, 0xDBFF) {
-        return replaced();
-    }
-    if !is_between(0xDC00, y, 0xDFFF) {
-        return replaced();
-    }
-    Scalar {
-        size: 2,
-        code: 0x10000 + x % 1024 * 1024 + y % 1024,
+    match (u, w) {
+        (0xD800..=0xDBFF, 0xDC00..=0xDFFF) => Scalar {
+            size: 2,
+            code: 0x10000 + u as u32 % 1024 * 1024 + w as u32 % 1024,
+        },
+        (0xD800..=0xDFFF, _) => replaced(),
+        _ => Scalar {
+            size: 1,
+            code: u as u32,
+        },
     }
 }
 
@@ -226,19 +211,16 @@ pub fn point_at(name: &[u16], i: usize) -> Scalar
 }
 
 // How many bytes of UTF-8 a scalar value takes.
+#[tactic(auto, using(crate::proofs::Sizes::byte_counts))]
 pub fn byte_count(code: u32) -> usize
     ensures { result ≡ length (utf8_of code) }
 {
-    if code < 128 {
-        return 1;
+    match code {
+        0..=127 => 1,
+        128..=2047 => 2,
+        2048..=65535 => 3,
+        _ => 4,
     }
-    if code < 2048 {
-        return 2;
-    }
-    if code < 65536 {
-        return 3;
-    }
-    4
 }
 
 // The bytes of a scalar value, stored at place n of a text.
@@ -274,17 +256,16 @@ pub fn compose(name: &[u16]) -> Words
     let mut words = [0u8; 108];
     let mut i = 0;
     let mut n = 0;
+    // No `for` and no chunks: a character takes one unit or two, so the place goes on by as many.
     while i < 36 {
         let u = unit_at(name, i);
         if u == 0 {
             return Words { count: n, words };
         }
         let p = point_at(name, i);
-        let size = p.size;
-        let code = p.code;
-        put_utf8(&mut words, n, code);
-        n += byte_count(code);
-        i += size;
+        put_utf8(&mut words, n, p.code);
+        n += byte_count(p.code);
+        i += p.size;
     }
     Words { count: n, words }
 }

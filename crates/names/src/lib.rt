@@ -5,11 +5,11 @@ pub mod inner;
 
 ghost use Rattle.std.specs.Prelude.{◌≡◌};
 ghost use Rattle.units.specs.Answer.{Ends};
-ghost use Rattle.units.specs.Meanings.{stored_means};
+ghost use Rattle.units.specs.Meanings.{means};
 ghost use Rattle.text.specs.Texts.{text_stored};
 ghost use Rattle.names.specs.NameTexts.{name_of_text, name_text};
 
-use units::Stored;
+use units::Refusal;
 
 // What a text gives: number 0 and its units with zeros behind them; or 39 or 40, the place of the character that was refused, and zeros alone.
 #[repr(C)]
@@ -27,23 +27,22 @@ pub fn name_from_utf8(text: &[u8]) -> NameOfText
     let mut name = [0u16; 36];
     let mut at = 0;
     let mut k = 0;
+    // No `for` and no chunks: a character takes one to four bytes, so the place goes on by as many.
     while at < text.len() {
         let s = inner::scalar_at(text, at);
-        let size = s.size;
-        let code = s.code;
-        if size == 0 {
+        if s.size == 0 {
             return inner::refused(39, at);
         }
-        if code == 0 {
+        if s.code == 0 {
             return inner::refused(39, at);
         }
-        let n = inner::unit_count(code);
+        let n = inner::unit_count(s.code);
         if 36 < k + n {
             return inner::refused(40, at);
         }
-        inner::put_units(&mut name, k, code);
+        inner::put_units(&mut name, k, s.code);
         k += n;
-        at += size;
+        at += s.size;
     }
     NameOfText {
         number: 0,
@@ -54,11 +53,9 @@ pub fn name_from_utf8(text: &[u8]) -> NameOfText
 
 // The text of a name in UTF-8, stored in lent bytes with a zero behind it: its units before the first zero, at most 36 of those lent; a surrogate that has no partner is U+FFFD.
 // 2 where there is no room; 109 bytes are always enough.
-pub fn name_to_utf8(out: &mut [u8], name: &[u16]) -> Stored
-    ensures { Ends (text_stored out.old (name_text name.now)) (stored_means result) out.new }
+pub fn name_to_utf8(out: &mut [u8], name: &[u16]) -> Result<usize, Refusal>
+    ensures { Ends (text_stored out.old (name_text name.now)) (means result) out.new }
 {
     let t = inner::compose(name);
-    let words = t.words;
-    let n = t.count;
-    text::deliver(out, &words[..n])
+    text::deliver(out, &t.words[..t.count])
 }

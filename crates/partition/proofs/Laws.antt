@@ -4,19 +4,24 @@ use mathlib.Core.Path.{◌≡◌, refl, sym, ap, ◌∙◌}
 use mathlib.Core.Logic.{◌⊎◌, inl, inr, ⊎_elim}
 use mathlib.Core.Bool.{Bool, true, false, ◌||◌}
 use mathlib.Core.List.{List, [], ◌∷◌, ◌++◌, append-nil, append_assoc}
-use Prim.Native.Nat.{ℕ, zero, suc, ◌+◌, ◌*◌, ◌-◌, ◌^◌, ◌≤◌, ◌<◌}
+use Prim.Native.Nat.{ℕ, zero, suc, ◌+◌, ◌*◌, ◌-◌, ◌^◌, ◌≤◌, ◌<◌, min}
 use native.Mathlib.Nat.{add_assoc, add-zero, sub-zero, suc-sub-suc, eq-zero-or-pos, lt_of_not-le}
 use native.Mathlib.Decide.{dec_le}
 use native.Mathlib.Omega.{arith}
 use lib.Dec.{eqb, leb}
-use lib.ListN.{length, take, drop, get_or, set, replicate, length-append, length-replicate, drop_of_length-le, get_or-append, get_or-replicate, take-append-drop}
-use lib.Seq.{drop-cons, sets, sets-eq, get_or-take, get_or-append-add, get_or-drop, length-take-le, take_at, drop_at}
+use lib.ListN.{length, take, drop, get_or, set, replicate, length-append, length-replicate, length-drop, drop_of_length-le, take-append-drop}
+use lib.Seq.{drop-cons, sets, get_or-drop, length-take-le, take_at, drop_at}
 use borrow.Author.Rules.{elem_Fits}
 use borrow.Author.Tests.{eq-eqb, ne_eqb, le-leb, lt-leb}
 use denote.Shadow.{shadow}
 use denote.Struct.Declared.{row}
 use mir.Val.{Val}
 use mir.Syntax.{w16}
+use Rattle.std.specs.Prelude.{position, unwrap_or, ◌==◌}
+use Rattle.std.specs.List.{position_or_len}
+use Rattle.std.proofs.Math.Seq.{take-length, take-append-add}
+use Rattle.std.proofs.lemmas.List.{take-append-le, take-replicate}
+use Rattle.std.proofs.lemmas.Bool.Decides.{nat_tests}
 use Rattle.units.specs.declared.Lba.{Lba}
 use Rattle.units.specs.declared.Guid.{Guid}
 use Rattle.units.specs.Answer.{pick}
@@ -37,21 +42,6 @@ use Rattle.partition.specs.contracts.Partition.{the_type}
 
 -- ---- names: the first zero unit, and zeros from there on
 
--- the search for the first zero unit goes on after another, and stops at it
-pub first_on : (us : List ℕ) (i : ℕ) → i < length us → (get_or us i 0 ≡ 0 → ⊥) → first_zero (drop i us) ≡ suc (first_zero (drop (i + 1) us))
-unfolding first_zero
-first_on us i h z =
-    let a : i + 1 ≡ suc i = omega arith in
-    rw (a, drop-cons us i 0 h, ne_eqb _ 0 z)
-
-pub first-stop : (us : List ℕ) (i : ℕ) → i < length us → get_or us i 0 ≡ 0 → first_zero (drop i us) ≡ 0
-unfolding first_zero
-first-stop us i h z = rw (drop-cons us i 0 h, eq-eqb _ 0 z)
-
-pub first-end : (us : List ℕ) (i : ℕ) → length us ≤ i → first_zero (drop i us) ≡ 0
-unfolding first_zero
-first-end us i h = rw (drop_of_length-le us h)
-
 pick-le : (b : Bool) (x n : ℕ) → x ≤ n → pick b 0 (suc x) ≤ suc n
 pick-le true x n h = omega arith
 pick-le false x n h = omega arith
@@ -61,24 +51,21 @@ unfolding first_zero
 first-le [] = omega arith
 first-le (u ∷ us) = pick-le (eqb u 0) (first_zero us) (length us) (first-le us)
 
--- zeros stored from the first zero unit on
-pub cleared-sets : (us : List ℕ) (n : ℕ) → length us ≡ n → sets us (first_zero us) (replicate (n - first_zero us) 0) ≡ cleared us
-unfolding cleared
-cleared-sets us n e =
-    let k : ℕ = first_zero us in
-    let z : List ℕ = replicate (n - k) 0 in
-    let l : length z ≡ n - k = length-replicate (n - k) 0 in
-    let le : k ≤ length us = first-le us in
-    let f : k + length z ≤ length us = omega arith in
-    let g : length us ≤ k + length z = omega arith in
-    sets-eq z us k f ∙ rw (drop_of_length-le us g, append-nil, e)
+-- it is where the library finds it
+first-position : (us : List ℕ) → position_or_len (λ (u : ℕ). u == 0) us ≡ first_zero us
+unfolding first_zero
+first-position [] = refl
+first-position (u ∷ us) = grind (arith, nat_tests, first-position us)
 
--- a store of one zero, and of the zeros that are left
-pub clear-more : (s : List ℕ) (i n : ℕ) → i < n → sets (set s i 0) (i + 1) (replicate (n - (i + 1)) 0) ≡ sets s i (replicate (n - i) 0)
-clear-more s i n h =
-    let a : n - i ≡ suc (n - (i + 1)) = omega arith in
-    let b : i + 1 ≡ suc i = omega arith in
-    rw (a, b)
+pub position_first : (us : List ℕ) → length us ≡ 36 → unwrap_or (position (λ (u : ℕ). u == 0) us) 36 ≡ first_zero us
+position_first us h = grind (arith, nat_tests, first-position us, first-le us)
+
+-- zeros over the units from the first zero unit on
+pub cleared-filled : (us zs : List ℕ) (k n m : ℕ) → k ≡ first_zero us → length us ≡ n → m ≡ n - k → zs ≡ replicate m 0 → take k us ++ (zs ++ drop (n - k) (drop k us)) ≡ cleared us
+unfolding cleared
+cleared-filled us zs k n m f l e z =
+    let q : length (drop k us) ≤ n - k = omega (arith, length-drop k us) in
+    rw (drop_of_length-le (drop k us) q, append-nil, z, e, f, ← l)
 
 cleared-stop : (u : ℕ) (us : List ℕ) → u ≡ 0 → cleared (u ∷ us) ≡ 0 ∷ replicate (length us) 0
 unfolding cleared first_zero
@@ -151,27 +138,36 @@ pub length-fitted : (n : ℕ) (xs : List ℕ) → length (fitted n xs) ≡ n
 unfolding fitted
 length-fitted n xs = length-take-le n (xs ++ replicate n 0) (simp (length-append, length-replicate) (omega arith))
 
-pub fitted-in : (n : ℕ) (xs : List ℕ) (i : ℕ) → i < n → i < length xs → get_or (fitted n xs) i 0 ≡ get_or xs i 0
+cut-filled : (src : List ℕ) (n p : ℕ) → p ≡ min n (length src) → take p src ++ replicate (n - p) 0 ≡ take n (src ++ replicate n 0)
+cut-filled src n p m =
+    elim (dec_le n (length src)) [
+      | yes h ↦
+          let z : n - p ≡ 0 = omega arith in
+          let e : p ≡ n = omega arith in
+          rw (z, e, append-nil) (sym (take-append-le n src (replicate n 0) h))
+      | no h ↦
+          let e : p ≡ length src = omega arith in
+          let k : ℕ = n - length src in
+          let w : n ≡ length src + k = omega arith in
+          rw (e, take-length)
+          (sym (ap (λ (j : ℕ). take j (src ++ replicate n 0)) w ∙ take-append-add src (replicate n 0) k ∙ ap (λ (zs : List ℕ). src ++ zs) (take-replicate k n 0 (omega arith))))
+    ]
+
+-- the bytes that there is room for, and zeros over the others
+pub fitted-stored : (out src a z : List ℕ) (p : ℕ) → p ≡ min (length out) (length src) → a ≡ take p src
+    → z ≡ replicate (length (take (length (a ++ drop p out) - p) (drop p (a ++ drop p out)))) 0
+    → take p (a ++ drop p out) ++ (z ++ drop (length (a ++ drop p out) - p) (drop p (a ++ drop p out))) ≡ fitted (length out) src
 unfolding fitted
-fitted-in n xs i h k = get_or-take n (xs ++ replicate n 0) i 0 h ∙ get_or-append xs (replicate n 0) 0 i k
-
-pub fitted-past : (n : ℕ) (xs : List ℕ) (i : ℕ) → i < n → length xs ≤ i → get_or (fitted n xs) i 0 ≡ 0
-unfolding fitted
-fitted-past n xs i h k =
-    let e : i ≡ length xs + (i - length xs) = omega arith in
-    get_or-take n (xs ++ replicate n 0) i 0 h
-    ∙ ap (λ (j : ℕ). get_or (xs ++ replicate n 0) j 0) e
-    ∙ get_or-append-add xs (replicate n 0) (i - length xs) 0
-    ∙ get_or-replicate n (i - length xs) 0 0 (omega arith)
-
--- an element of a list that is stored, and what is left of it
-pub fit-more : (s vs : List ℕ) (v i : ℕ) → i < length vs → get_or vs i 0 ≡ v → sets (set s i v) (i + 1) (drop (i + 1) vs) ≡ sets s i (drop i vs)
-fit-more s vs v i h e =
-    let b : i + 1 ≡ suc i = omega arith in
-    rw (b, ← e, drop-cons vs i 0 h)
-
-pub fit_none : (s vs : List ℕ) (at i : ℕ) → length vs ≤ i → sets s at (drop i vs) ≡ s
-fit_none s vs at i h = rw (drop_of_length-le vs h)
+fitted-stored out src a z p m e f =
+    let n : ℕ = length out in
+    let la : length a ≡ p = ap length e ∙ length-take-le p src (omega arith) in
+    let lw : length (a ++ drop p out) ≡ n = omega (arith, length-append a (drop p out), length-drop p out) in
+    let d : drop p (a ++ drop p out) ≡ drop p out = drop_at a (drop p out) p la in
+    let t : take p (a ++ drop p out) ≡ a = take_at a (drop p out) p la in
+    let r : drop (n - p) (drop p out) ≡ [] = drop_of_length-le (drop p out) (omega (arith, length-drop p out)) in
+    let l : length (take (n - p) (drop p out)) ≡ n - p = length-take-le (n - p) (drop p out) (omega (arith, length-drop p out)) in
+    let g : z ≡ replicate (n - p) 0 = rw (lw, d, l) at f in
+    rw (t, d, lw, r, append-nil, g, e) (cut-filled src n p m)
 
 -- a list of n is its own cut
 pub fitted-same : (n : ℕ) (xs : List ℕ) → length xs ≡ n → fitted n xs ≡ xs

@@ -5,7 +5,7 @@ use mathlib.Core.List.{List, [], ◌∷◌}
 use Prim.Native.Nat.{ℕ, ◌+◌, ◌*◌, ◌-◌, ◌^◌, ◌≤◌, ◌<◌}
 use native.Mathlib.Omega.{arith}
 use lib.Dec.{eqb, ltb, leb}
-use lib.ListN.{length, replicate}
+use lib.ListN.{length, replicate, take}
 use lib.Seq.{sets}
 use borrow.Author.Tests.{eq-eqb, ne_eqb, lt-ltb, le-ltb, le-leb, lt-leb, eqb-true, eqb-false, leb-true, leb-false, ltb-false, not-false}
 use Rattle.units.proofs.Lists.{sets-all}
@@ -424,14 +424,13 @@ module _ (xs : List ℕ) (h : Header) (b slot : ℕ) where
 -- ---- what is answered of a place that was found
 
 module _ (xs : List ℕ) (h : Header) (b slot : ℕ) where
-  pub read-refused : {w : Why} → partition_found xs h b slot ≡ refused w
-      → record { verdict = refused w; value = record { present = false; partition = zero_partition } } ≡ reading_of (partition_read xs h b slot)
-  unfolding beside partition_read
+  pub read-refused : {w : Why} → partition_found xs h b slot ≡ refused w → refused w ≡ partition_read xs h b slot
+  unfolding partition_read
   read-refused e = rw e
 
   pub read_found : {q : BytePlace} → partition_found xs h b slot ≡ accepted q
-      → record { verdict = accepted tt; value = record { present = not (all_zero (part xs q.0 128)); partition = entry_at xs q.0 } } ≡ reading_of (partition_read xs h b slot)
-  unfolding beside partition_read
+      → accepted (record { present = not (all_zero (part xs q.0 128)); partition = entry_at xs q.0 }) ≡ partition_read xs h b slot
+  unfolding partition_read
   read_found e = rw e
 
 module _ (xs : List ℕ) (h : Header) (b : ℕ) where
@@ -448,14 +447,9 @@ module _ (xs : List ℕ) (h : Header) (b : ℕ) where
     unfolding partition_after
     after-refused e = rw e
 
-    module _ {p : BytePlace} {s : ℕ} (e : array_found xs h b ≡ accepted p) (f : s ≡ first_slot xs p.0 h.num_parts after) where
-      pub after_none : s ≡ 0 → accepted [] ≡ partition_after xs h b after
-      unfolding partition_after
-      after_none z = rw (e, next-none xs p.0 h.num_parts after (sym f ∙ z))
-
-      pub after-some : (s ≡ 0 → ⊥) → accepted (s ∷ []) ≡ partition_after xs h b after
-      unfolding partition_after
-      after-some z = rw (e, next-some xs p.0 h.num_parts after (λ q. z (f ∙ q)), f)
+    pub after_given : {p : BytePlace} {l : List ℕ} → array_found xs h b ≡ accepted p → l ≡ take 1 (present_from xs p.0 after (h.num_parts - after)) → accepted l ≡ partition_after xs h b after
+    unfolding partition_after
+    after_given e f = rw (e, f)
 
 -- the record's bytes, stored over an array of 128
 pub record-made : (p q : Partition) (z r : List ℕ) → length z ≡ 128 → length p.name ≡ 36 → q ≡ tidied p → r ≡ sets z 0 (entry_bytes q) → (r ≡ entry_bytes (tidied p)) × (length r ≡ 128)

@@ -1,17 +1,19 @@
 // Leaves for our own crates: each `requires` is what its caller has tested. No public calls.
-ghost use Rattle.std.specs.Prelude.{◌≡◌, not, true, false, List, ◌+◌, ◌*◌, ◌≤◌, ◌<◌, ◌^◌, length, replicate};
+ghost use Rattle.std.specs.Prelude.{◌≡◌, ◌==◌, not, true, false, List, ℕ, ◌+◌, ◌*◌, ◌≤◌, ◌<◌, ◌^◌, length, replicate, position, ◌-◌, take};
 ghost use Rattle.std.proofs.lemmas.List.Edits.{sets};
 ghost use Rattle.units.specs.Bytes.{part, all_zero};
 ghost use Rattle.units.specs.Places.{good_size, inside_or_empty};
-ghost use Rattle.units.specs.Meanings.{placed_means, verdict_means};
+ghost use Rattle.units.specs.Meanings.{means};
 ghost use Rattle.partition.specs.Flags.{bit, flags_of, joined, too_wide, Joins};
-ghost use Rattle.partition.specs.Format.{first_at, last_at, nil_type_at, units_at, unit_bytes, first_zero, cleared, entry_at, entry_bytes, tidied, fitted, zero_partition};
+ghost use Rattle.partition.specs.Format.{first_at, last_at, nil_type_at, units_at, unit_bytes, first_zero, cleared, entry_at, entry_bytes, tidied, fitted};
 ghost use Rattle.partition.specs.Device.{run_place, device_sizes, device_place, entry_device};
-ghost use Rattle.partition.specs.Array.{present, present_from, first_slot, array_found, partition_found};
+ghost use Rattle.partition.specs.Array.{present, present_from, array_found, partition_found};
+ghost use Rattle.partition.specs.Meanings.{found_of, slots_of};
 
-use crate::{Flags, Partition, PartitionRead};
-use header::{Header, SumFound};
-use units::{ArrayPlace, BytePlace, Lba, Placed, Refusal, Slot, Verdict};
+use crate::{Flags, Partition};
+use header::Header;
+use units::inner::Field;
+use units::{BytePlace, Lba, Refusal, Slot};
 
 // Where the entry at array place k stands, in the array at a byte place.
 pub fn entry_place(array: BytePlace, k: usize) -> BytePlace
@@ -42,7 +44,7 @@ pub fn first_at(s: &[u8], at: BytePlace) -> Lba
     requires { at.0 + 128 ≤ length s.now }
     ensures { result.0 ≡ first_at s.now at.0 }
 {
-    Lba(units::inner::u64_at(s, at.0 + 32))
+    Lba(u64::get(s, at.0 + 32))
 }
 
 // The last block of the entry at a place.
@@ -50,7 +52,7 @@ pub fn last_at(s: &[u8], at: BytePlace) -> Lba
     requires { at.0 + 128 ≤ length s.now }
     ensures { result.0 ≡ last_at s.now at.0 }
 {
-    Lba(units::inner::u64_at(s, at.0 + 40))
+    Lba(u64::get(s, at.0 + 40))
 }
 
 fn bit(yes: bool) -> u64
@@ -81,26 +83,24 @@ pub fn units_at(s: &[u8], at: usize) -> [u16; 36]
     ensures { result ≡ units_at 36 s.now at }
 {
     let mut name = [0u16; 36];
-    let mut i = 0;
-    while i < 36 {
-        name[i] = units::inner::u16_at(s, at + 2 * i);
-        i += 1;
+    for (i, u) in name.iter_mut().enumerate() {
+        *u = u16::get(s, at + 2 * i);
     }
     name
 }
 
-// The place of a name's first zero unit, or 36.
+// The place of a name's first zero unit.
+fn zero_unit(name: &[u16; 36]) -> Option<usize>
+    ensures { result ≡ position (λ (u : ℕ). u == 0) name.now }
+{
+    name.iter().position(|u| *u == 0)
+}
+
+// The same, or 36 where there is none.
 fn first_zero(name: [u16; 36]) -> usize
     ensures { result ≡ first_zero name }
 {
-    let mut i = 0;
-    while i < 36 {
-        if name[i] == 0 {
-            return i;
-        }
-        i += 1;
-    }
-    i
+    zero_unit(&name).unwrap_or(36)
 }
 
 // The name with each unit after its first zero cleared.
@@ -108,11 +108,7 @@ pub fn clear_name(name: [u16; 36]) -> [u16; 36]
     ensures { result ≡ cleared name }
 {
     let mut out = name;
-    let mut i = first_zero(name);
-    while i < 36 {
-        out[i] = 0;
-        i += 1;
-    }
+    out[first_zero(name)..].fill(0);
     out
 }
 
@@ -123,9 +119,9 @@ pub fn entry_at(s: &[u8], at: usize) -> Partition
 {
     let part_type_guid = units::inner::guid_at(s, at);
     let part_guid = units::inner::guid_at(s, at + 16);
-    let first_lba = Lba(units::inner::u64_at(s, at + 32));
-    let last_lba = Lba(units::inner::u64_at(s, at + 40));
-    let flags = Flags::of_bits(units::inner::u64_at(s, at + 48));
+    let first_lba = Lba(u64::get(s, at + 32));
+    let last_lba = Lba(u64::get(s, at + 40));
+    let flags = Flags::of_bits(u64::get(s, at + 48));
     let name = clear_name(units_at(s, at + 56));
     Partition {
         part_type_guid,
@@ -141,10 +137,8 @@ fn put_units(s: &mut [u8], at: usize, name: [u16; 36])
     requires { at + 72 ≤ length s.old }
     ensures { s.new ≡ sets s.old at (unit_bytes name) }
 {
-    let mut i = 0;
-    while i < 36 {
-        units::inner::put_num(s, at + 2 * i, 2, name[i] as u64);
-        i += 1;
+    for (i, u) in name.iter().enumerate() {
+        (*u).put(s, at + 2 * i);
     }
 }
 
@@ -161,9 +155,9 @@ pub fn put_entry(s: &mut [u8], at: usize, p: Partition)
     let name = p.name;
     units::inner::put_guid(s, at, t);
     units::inner::put_guid(s, at + 16, g);
-    units::inner::put_num(s, at + 32, 8, first.0);
-    units::inner::put_num(s, at + 40, 8, last.0);
-    units::inner::put_num(s, at + 48, 8, joined(flags));
+    first.0.put(s, at + 32);
+    last.0.put(s, at + 40);
+    joined(flags).put(s, at + 48);
     put_units(s, at + 56, name);
 }
 
@@ -171,27 +165,14 @@ pub fn put_entry(s: &mut [u8], at: usize, p: Partition)
 pub fn tidied_bytes(p: Partition) -> [u8; 128]
     ensures { (result ≡ entry_bytes (tidied p)) × (length result ≡ 128) }
 {
-    let part_type_guid = p.part_type_guid;
-    let part_guid = p.part_guid;
-    let first_lba = p.first_lba;
-    let last_lba = p.last_lba;
-    let f = p.flags;
-    let flags = Flags {
-        reserved: 0,
-        owner: f.owner,
-        required: f.required,
-        no_block_io: f.no_block_io,
-        legacy_bootable: f.legacy_bootable,
-    };
-    let raw = p.name;
-    let name = clear_name(raw);
+    let name = clear_name(p.name);
     let tidy = Partition {
-        part_type_guid,
-        part_guid,
-        first_lba,
-        last_lba,
-        flags,
+        flags: Flags {
+            reserved: 0,
+            ..p.flags
+        },
         name,
+        ..p
     };
     let mut e = [0u8; 128];
     put_entry(&mut e, 0, tidy);
@@ -202,15 +183,9 @@ pub fn tidied_bytes(p: Partition) -> [u8; 128]
 pub fn fit(out: &mut [u8], src: &[u8])
     ensures { out.new ≡ fitted (length out.old) src.now }
 {
-    let mut i = 0;
-    while i < out.len() {
-        if i < src.len() {
-            out[i] = src[i];
-        } else {
-            out[i] = 0;
-        }
-        i += 1;
-    }
+    let n = out.len().min(src.len());
+    out[..n].copy_from_slice(&src[..n]);
+    out[n..].fill(0);
 }
 
 // The record's 128 bytes, cut or filled with zeros to the length of out.
@@ -224,72 +199,78 @@ pub fn put_fitted(out: &mut [u8], p: Partition)
 }
 
 // The place `offset` bytes after a place, if `n` bytes from there on end below 2^64: 3.
-fn run_place(base: BytePlace, offset: usize, n: usize) -> Placed
-    ensures { placed_means result ≡ run_place base.0 offset n }
+fn run_place(base: BytePlace, offset: usize, n: usize) -> Result<BytePlace, Refusal>
+    ensures { means result ≡ run_place base.0 offset n }
 {
-    match base.after(offset) {
-        Placed::Refused(w) => Placed::Refused(w),
-        Placed::At(at) => match at.after(n) {
-            Placed::Refused(w) => Placed::Refused(w),
-            Placed::At(_end) => Placed::At(at),
-        },
-    }
+    let at = base.after(offset)?;
+    let _end = at.after(n)?;
+    Ok(at)
 }
 
 // The sizes of a block and of an entry: 1, 7.
-fn device_sizes(b: u64, entry_size: u32) -> Verdict
-    ensures { verdict_means result ≡ device_sizes b entry_size }
+fn device_sizes(b: u64, entry_size: u32) -> Result<(), Refusal>
+    ensures { means result ≡ device_sizes b entry_size }
 {
     if !units::good_block_size(b) {
-        return Verdict::Refused(Refusal::BadBlockSize);
+        return Err(Refusal::BadBlockSize);
     }
     if entry_size == 0 || 4096 < entry_size {
-        return Verdict::Refused(Refusal::BadEntrySize);
+        return Err(Refusal::BadEntrySize);
     }
-    Verdict::Accepted
+    Ok(())
 }
 
 // Where entry `index` of an array that starts at a block stands, if `count` entries from there on end below 2^64: 3.
-fn device_run(start: Lba, index: u64, b: u64, entry_size: u32, count: u64) -> Placed
+fn device_run(
+    start: Lba,
+    index: u64,
+    b: u64,
+    entry_size: u32,
+    count: u64,
+) -> Result<BytePlace, Refusal>
     requires { (good_size b ≡ true) × (1 ≤ entry_size) }
-    ensures { placed_means result ≡ run_place (start.0 * b) (index * entry_size) (count * entry_size) }
+    ensures { means result ≡ run_place (start.0 * b) (index * entry_size) (count * entry_size) }
 {
     let size = entry_size as u64;
     let most = 0xFFFF_FFFF_FFFF_FFFF / size;
     if most < index || most < count {
-        return Placed::Refused(Refusal::Overflow);
+        return Err(Refusal::Overflow);
     }
     let offset = index * size;
     let n = count * size;
-    match start.place(b) {
-        Placed::Refused(w) => Placed::Refused(w),
-        Placed::At(base) => run_place(base, offset as usize, n as usize),
-    }
+    let base = start.place(b)?;
+    run_place(base, offset as usize, n as usize)
 }
 
 // The same after the sizes: 1, 7, 3.
-pub fn device_place(start: Lba, index: u64, b: u64, entry_size: u32, count: u64) -> Placed
-    ensures { placed_means result ≡ device_place start.0 index b entry_size count }
+pub fn device_place(
+    start: Lba,
+    index: u64,
+    b: u64,
+    entry_size: u32,
+    count: u64,
+) -> Result<BytePlace, Refusal>
+    ensures { means result ≡ device_place start.0 index b entry_size count }
 {
-    match device_sizes(b, entry_size) {
-        Verdict::Refused(w) => Placed::Refused(w),
-        Verdict::Accepted => device_run(start, index, b, entry_size, count),
-    }
+    device_sizes(b, entry_size)?;
+    device_run(start, index, b, entry_size, count)
 }
 
 // The same of one entry with its flags: 1, 7, 28, 3.
-pub fn entry_device(f: Flags, start: Lba, index: u64, b: u64, entry_size: u32) -> Placed
-    ensures { placed_means result ≡ entry_device f start.0 index b entry_size }
+pub fn entry_device(
+    f: Flags,
+    start: Lba,
+    index: u64,
+    b: u64,
+    entry_size: u32,
+) -> Result<BytePlace, Refusal>
+    ensures { means result ≡ entry_device f start.0 index b entry_size }
 {
-    match device_sizes(b, entry_size) {
-        Verdict::Refused(w) => Placed::Refused(w),
-        Verdict::Accepted => {
-            if too_wide(f) {
-                return Placed::Refused(Refusal::ReservedFlag);
-            }
-            device_run(start, index, b, entry_size, 1)
-        }
+    device_sizes(b, entry_size)?;
+    if too_wide(f) {
+        return Err(Refusal::ReservedFlag);
     }
+    device_run(start, index, b, entry_size, 1)
 }
 
 // Whether the entry at place at is present: not 128 zero bytes. They are read where they stand.
@@ -306,75 +287,59 @@ pub fn count_present(s: &[u8], at: usize, count: u32) -> u32
     ensures { result ≡ length (present_from s.now at 0 count) }
 {
     let mut n = 0;
-    let mut k = 0;
-    while k < count {
+    for k in 0..count {
         if is_present(s, at + (k as usize) * 128) {
             n += 1;
         }
-        k += 1;
     }
     n
 }
 
-// The first present slot after a slot, among the count entries from place at on; slot 0 where there is none.
-pub fn next_present(s: &[u8], at: usize, count: u32, after: Slot) -> Slot
-    requires { inside_or_empty (length s.now) at (count * 128) ≡ true }
-    ensures { result.0 ≡ first_slot s.now at count after.0 }
+// The record of the entry at place at, if it is present.
+pub fn entry_if_present(s: &[u8], at: usize) -> Option<Partition>
+    requires { at + 128 ≤ length s.now }
+    ensures { found_of result ≡ record { present = not (all_zero (part s.now at 128)); partition = entry_at s.now at } }
 {
-    let mut k = after.0;
-    while k < count {
-        if is_present(s, at + (k as usize) * 128) {
-            return units::inner::slot_at(k);
-        }
-        k += 1;
+    if is_present(s, at) {
+        Some(entry_at(s, at))
+    } else {
+        None
     }
-    Slot(0)
+}
+
+// The first present slot after a slot, among the count entries from place at on.
+pub fn next_present(s: &[u8], at: usize, count: u32, after: Slot) -> Option<Slot>
+    requires { inside_or_empty (length s.now) at (count * 128) ≡ true }
+    ensures { slots_of result ≡ take 1 (present_from s.now at after.0 (count - after.0)) }
+{
+    for k in after.0..count {
+        if is_present(s, at + (k as usize) * 128) {
+            return Some(units::inner::slot_at(k));
+        }
+    }
+    None
 }
 
 // Where the array that a header names stands, once its sum is right: 1, 3, 7, 2, 6.
-pub fn find_array(img: &[u8], h: Header, b: u64) -> Placed
-    ensures { placed_means result ≡ array_found img.now h b }
+pub fn find_array(img: &[u8], h: Header, b: u64) -> Result<BytePlace, Refusal>
+    ensures { means result ≡ array_found img.now h b }
 {
-    let start = h.part_start;
-    match start.place(b) {
-        Placed::Refused(w) => Placed::Refused(w),
-        Placed::At(at) => {
-            if h.part_size != 128 {
-                return Placed::Refused(Refusal::BadEntrySize);
-            }
-            match h.partentry_checksum(img, b) {
-                SumFound::Refused(w) => Placed::Refused(w),
-                SumFound::Sum(sum) => {
-                    if sum != h.crc32_parts {
-                        return Placed::Refused(Refusal::PartsCrc);
-                    }
-                    Placed::At(at)
-                }
-            }
-        }
+    let at = h.part_start.place(b)?;
+    if h.part_size != 128 {
+        return Err(Refusal::BadEntrySize);
     }
+    let sum = h.partentry_checksum(img, b)?;
+    if sum != h.crc32_parts {
+        return Err(Refusal::PartsCrc);
+    }
+    Ok(at)
 }
 
 // Where a slot's entry stands in the array that a header names: 1, 3, 7, 2, 6, 18.
-pub fn partition_place(img: &[u8], h: Header, b: u64, slot: Slot) -> Placed
-    ensures { placed_means result ≡ partition_found img.now h b slot.0 }
+pub fn partition_place(img: &[u8], h: Header, b: u64, slot: Slot) -> Result<BytePlace, Refusal>
+    ensures { means result ≡ partition_found img.now h b slot.0 }
 {
-    match find_array(img, h, b) {
-        Placed::Refused(w) => Placed::Refused(w),
-        Placed::At(at) => match slot.array_place(h.num_parts) {
-            ArrayPlace::Refused(w) => Placed::Refused(w),
-            ArrayPlace::At(k) => Placed::At(BytePlace(at.0 + (k as usize) * 128)),
-        },
-    }
-}
-
-// A refusal: absent, with the zero record.
-pub fn refused(w: Refusal) -> PartitionRead
-    ensures { result ≡ record { verdict = Verdict.Refused w; present = false; partition = zero_partition } }
-{
-    PartitionRead {
-        verdict: Verdict::Refused(w),
-        present: false,
-        partition: Partition::zero(),
-    }
+    let at = find_array(img, h, b)?;
+    let k = slot.array_place(h.num_parts)?;
+    Ok(BytePlace(at.0 + (k as usize) * 128))
 }

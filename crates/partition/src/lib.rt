@@ -8,20 +8,20 @@ ghost use Rattle.std.specs.Prelude.{◌≡◌, not};
 ghost use Rattle.units.specs.Answer.{Ends};
 ghost use Rattle.units.specs.Guids.{is_nil};
 ghost use Rattle.units.specs.Places.{place_of};
-ghost use Rattle.units.specs.Meanings.{placed_means, stored_means, verdict_means};
+ghost use Rattle.units.specs.Meanings.{means};
 ghost use Rattle.partition.specs.Flags.{flags_of, bits_of};
 ghost use Rattle.partition.specs.Format.{entry_at, zero_partition};
 ghost use Rattle.partition.specs.Lengths.{sectors_len, bytes_len};
 ghost use Rattle.partition.specs.Device.{entry_written, entry_stored, zeros_stored};
-ghost use Rattle.partition.specs.Array.{partition_read, partition_count, partition_after, reading_of};
-ghost use Rattle.partition.specs.Meanings.{bits_means, length_means, read_means, count_means, next_means};
+ghost use Rattle.partition.specs.Array.{partition_read, partition_count, partition_after};
+ghost use Rattle.partition.specs.Meanings.{read_means, next_means};
 
 use header::Header;
-use units::{BytePlace, Guid, Lba, Placed, Refusal, Slot, Stored, Verdict};
+use units::{BytePlace, Guid, Lba, Refusal, Slot};
 
 // An entry's attributes (UEFI 2.10, 5.3.3, table 5.8): bits 3 to 47 as a number, bits 48 to 63 for the owner of the type, bits 0, 1 and 2.
 #[repr(C)]
-#[derive(Clone, Copy)]
+#[derive(Clone, Copy, Debug, PartialEq, Eq)]
 pub struct Flags {
     pub reserved: u64,
     pub owner: u16,
@@ -30,16 +30,9 @@ pub struct Flags {
     pub legacy_bootable: bool,
 }
 
-// The 64 bits of flags, or 28.
-#[derive(Clone, Copy)]
-pub enum FlagBits {
-    Bits(u64),
-    Refused(Refusal),
-}
-
 // An entry's record (UEFI 2.10, 5.3.3). The name is 36 raw 16-bit units.
 #[repr(C)]
-#[derive(Clone, Copy)]
+#[derive(Clone, Copy, Debug, PartialEq, Eq)]
 pub struct Partition {
     pub part_type_guid: Guid,
     pub part_guid: Guid,
@@ -47,33 +40,6 @@ pub struct Partition {
     pub last_lba: Lba,
     pub flags: Flags,
     pub name: [u16; 36],
-}
-
-#[derive(Clone, Copy)]
-pub enum Length {
-    Count(u64),
-    Refused(Refusal),
-}
-
-// The verdict, whether the entry is present, and its record. A refusal has the zero record, absent.
-#[derive(Clone, Copy)]
-pub struct PartitionRead {
-    pub verdict: Verdict,
-    pub present: bool,
-    pub partition: Partition,
-}
-
-#[derive(Clone, Copy)]
-pub enum PartitionCount {
-    Present(u32),
-    Refused(Refusal),
-}
-
-#[derive(Clone, Copy)]
-pub enum NextPartition {
-    At(Slot),
-    NoMore,
-    Refused(Refusal),
 }
 
 impl Flags {
@@ -91,13 +57,13 @@ impl Flags {
     }
 
     // The 64 bits: 28 if the reserved part needs more than 45.
-    pub fn bits(self) -> FlagBits
-        ensures { bits_means result ≡ bits_of self }
+    pub fn bits(self) -> Result<u64, Refusal>
+        ensures { means result ≡ bits_of self }
     {
         if inner::too_wide(self) {
-            return FlagBits::Refused(Refusal::ReservedFlag);
+            return Err(Refusal::ReservedFlag);
         }
-        FlagBits::Bits(inner::joined(self))
+        Ok(inner::joined(self))
     }
 }
 
@@ -124,64 +90,58 @@ impl Partition {
     }
 
     // The record's 128 bytes, cut or filled with zeros to the buffer's length: 28 whatever that is.
-    pub fn write_bytes(self, out: &mut [u8]) -> Verdict
-        ensures { Ends (entry_written out.old self) (verdict_means result) out.new }
+    pub fn write_bytes(self, out: &mut [u8]) -> Result<(), Refusal>
+        ensures { Ends (entry_written out.old self) (means result) out.new }
     {
         let flags = self.flags;
         if inner::too_wide(flags) {
-            return Verdict::Refused(Refusal::ReservedFlag);
+            return Err(Refusal::ReservedFlag);
         }
         inner::put_fitted(out, self);
-        Verdict::Accepted
+        Ok(())
     }
 
     // Whether the type is not all zero.
     pub fn is_used(self) -> bool
         ensures { result ≡ not (is_nil self.part_type_guid) }
     {
-        let t = self.part_type_guid;
-        !t.is_nil()
+        !self.part_type_guid.is_nil()
     }
 
     // How many blocks: 20, 3.
-    pub fn sectors_len(self) -> Length
-        ensures { length_means result ≡ sectors_len self.first_lba.0 self.last_lba.0 }
+    pub fn sectors_len(self) -> Result<u64, Refusal>
+        ensures { means result ≡ sectors_len self.first_lba.0 self.last_lba.0 }
     {
         let first = self.first_lba.0;
         let last = self.last_lba.0;
         if last < first {
-            return Length::Refused(Refusal::BadRange);
+            return Err(Refusal::BadRange);
         }
         if last - first == 0xFFFF_FFFF_FFFF_FFFF {
-            return Length::Refused(Refusal::Overflow);
+            return Err(Refusal::Overflow);
         }
-        Length::Count(last - first + 1)
+        Ok(last - first + 1)
     }
 
     // How many bytes, in blocks of b: 1, 20, 3, 3.
-    pub fn bytes_len(self, b: u64) -> Length
-        ensures { length_means result ≡ bytes_len self.first_lba.0 self.last_lba.0 b }
+    pub fn bytes_len(self, b: u64) -> Result<u64, Refusal>
+        ensures { means result ≡ bytes_len self.first_lba.0 self.last_lba.0 b }
     {
         if !units::good_block_size(b) {
-            return Length::Refused(Refusal::BadBlockSize);
+            return Err(Refusal::BadBlockSize);
         }
-        match self.sectors_len() {
-            Length::Refused(w) => Length::Refused(w),
-            Length::Count(n) => {
-                if 0xFFFF_FFFF_FFFF_FFFF / b < n {
-                    return Length::Refused(Refusal::Overflow);
-                }
-                Length::Count(n * b)
-            }
+        let n = self.sectors_len()?;
+        if 0xFFFF_FFFF_FFFF_FFFF / b < n {
+            return Err(Refusal::Overflow);
         }
+        Ok(n * b)
     }
 
     // Where the first byte stands, in blocks of b: 1, 3.
-    pub fn bytes_start(self, b: u64) -> Placed
-        ensures { placed_means result ≡ place_of self.first_lba.0 b }
+    pub fn bytes_start(self, b: u64) -> Result<BytePlace, Refusal>
+        ensures { means result ≡ place_of self.first_lba.0 b }
     {
-        let first = self.first_lba;
-        first.place(b)
+        self.first_lba.place(b)
     }
 
     // Stores the record as entry `index` of an array of entries of entry_size bytes that starts at a block: 1, 7, 28, 3, 2.
@@ -192,22 +152,17 @@ impl Partition {
         start: Lba,
         b: u64,
         entry_size: u32,
-    ) -> Stored
-        ensures { Ends (entry_stored img.old self index start.0 b entry_size) (stored_means result) img.new }
+    ) -> Result<usize, Refusal>
+        ensures { Ends (entry_stored img.old self index start.0 b entry_size) (means result) img.new }
     {
         let size = entry_size as usize;
-        let flags = self.flags;
-        match inner::entry_device(flags, start, index, b, entry_size) {
-            Placed::Refused(w) => Stored::Refused(w),
-            Placed::At(at) => {
-                if !units::is_inside(img.len(), at, size) {
-                    return Stored::Refused(Refusal::Short);
-                }
-                let a = at.0;
-                inner::put_fitted(&mut img[a..a + size], self);
-                Stored::Bytes(size)
-            }
+        let at = inner::entry_device(self.flags, start, index, b, entry_size)?;
+        if !units::is_inside(img.len(), at, size) {
+            return Err(Refusal::Short);
         }
+        let a = at.0;
+        inner::put_fitted(&mut img[a..a + size], self);
+        Ok(size)
     }
 
     // Stores zeros over `count` entries from entry `index` on: 1, 7, 3, 2. Zeroing none is accepted at any place below 2^64.
@@ -218,70 +173,48 @@ impl Partition {
         start: Lba,
         b: u64,
         entry_size: u32,
-    ) -> Stored
-        ensures { Ends (zeros_stored img.old index count start.0 b entry_size) (stored_means result) img.new }
+    ) -> Result<usize, Refusal>
+        ensures { Ends (zeros_stored img.old index count start.0 b entry_size) (means result) img.new }
     {
-        match inner::device_place(start, index, b, entry_size, count) {
-            Placed::Refused(w) => Stored::Refused(w),
-            Placed::At(at) => {
-                let n = (count * entry_size as u64) as usize;
-                if n == 0 {
-                    return Stored::Bytes(0);
-                }
-                if !units::is_inside(img.len(), at, n) {
-                    return Stored::Refused(Refusal::Short);
-                }
-                let a = at.0;
-                units::inner::put_zeros(img, a, n);
-                Stored::Bytes(n)
-            }
+        let at = inner::device_place(start, index, b, entry_size, count)?;
+        let n = (count * entry_size as u64) as usize;
+        if n == 0 {
+            return Ok(0);
         }
+        if !units::is_inside(img.len(), at, n) {
+            return Err(Refusal::Short);
+        }
+        let a = at.0;
+        units::inner::put_zeros(img, a, n);
+        Ok(n)
     }
 }
 
-// The entry in a slot of the array that a header names: 1, 3, 7, 2, 6, 18.
-pub fn read_partition(img: &[u8], h: Header, b: u64, slot: Slot) -> PartitionRead
-    ensures { read_means result ≡ reading_of (partition_read img.now h b slot.0) }
+// The entry in a slot of the array that a header names, if it is present: 1, 3, 7, 2, 6, 18.
+pub fn read_partition(
+    img: &[u8],
+    h: Header,
+    b: u64,
+    slot: Slot,
+) -> Result<Option<Partition>, Refusal>
+    ensures { read_means result ≡ partition_read img.now h b slot.0 }
 {
-    match inner::partition_place(img, h, b, slot) {
-        Placed::Refused(w) => inner::refused(w),
-        Placed::At(at) => {
-            let a = at.0;
-            PartitionRead {
-                verdict: Verdict::Accepted,
-                present: inner::is_present(img, a),
-                partition: inner::entry_at(img, a),
-            }
-        }
-    }
+    let at = inner::partition_place(img, h, b, slot)?;
+    Ok(inner::entry_if_present(img, at.0))
 }
 
 // How many entries of the array that a header names are present: 1, 3, 7, 2, 6.
-pub fn count_partitions(img: &[u8], h: Header, b: u64) -> PartitionCount
-    ensures { count_means result ≡ partition_count img.now h b }
+pub fn count_partitions(img: &[u8], h: Header, b: u64) -> Result<u32, Refusal>
+    ensures { means result ≡ partition_count img.now h b }
 {
-    match inner::find_array(img, h, b) {
-        Placed::Refused(w) => PartitionCount::Refused(w),
-        Placed::At(at) => {
-            let a = at.0;
-            PartitionCount::Present(inner::count_present(img, a, h.num_parts))
-        }
-    }
+    let at = inner::find_array(img, h, b)?;
+    Ok(inner::count_present(img, at.0, h.num_parts))
 }
 
 // The first present slot after a slot, where slot 0 stands before the first: 1, 3, 7, 2, 6.
-pub fn next_partition(img: &[u8], h: Header, b: u64, after: Slot) -> NextPartition
+pub fn next_partition(img: &[u8], h: Header, b: u64, after: Slot) -> Result<Option<Slot>, Refusal>
     ensures { next_means result ≡ partition_after img.now h b after.0 }
 {
-    match inner::find_array(img, h, b) {
-        Placed::Refused(w) => NextPartition::Refused(w),
-        Placed::At(at) => {
-            let a = at.0;
-            let slot = inner::next_present(img, a, h.num_parts, after);
-            if slot.0 == 0 {
-                return NextPartition::NoMore;
-            }
-            NextPartition::At(slot)
-        }
-    }
+    let at = inner::find_array(img, h, b)?;
+    Ok(inner::next_present(img, at.0, h.num_parts, after))
 }

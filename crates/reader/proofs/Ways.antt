@@ -8,7 +8,7 @@ use borrow.Author.Tests.{eq-eqb, ne_eqb, le-leb}
 use lib.ListN.{length, take, drop}
 use Rattle.units.specs.declared.why.Why.{Why}
 use Rattle.units.specs.declared.Refusal.{Refusal}
-use Rattle.units.specs.Answer.{accepted, refused, plain, pick, when, or_else, if_zero, judged, Beside, beside}
+use Rattle.units.specs.Answer.{accepted, refused, plain, pick, when, or_else, if_zero, judged}
 use Rattle.units.specs.Bytes.{part, all_zero}
 use Rattle.units.specs.Places.{inside, inside_or_empty}
 use Rattle.units.specs.declared.Refusal.TheVariants.{NoGoodCopy}
@@ -16,10 +16,8 @@ use Rattle.units.specs.declared.Place.{Place}
 use Rattle.units.specs.Refusals.{why, number, slot_in, refusal_of, reason_of, refused_by}
 use Rattle.units.proofs.Lists.{lent-part}
 use Rattle.units.proofs.Chains.{found, past, judged-none, judged-some, Bare, bare-else, Named, named-is, named-else}
-use Rattle.partition.specs.declared.Partition.{Partition}
-use Rattle.partition.specs.Format.{entry_at, zero_partition}
-use Rattle.partition.specs.Array.{Found, entry_place, present_from, first_slot, reading_of}
-use Rattle.partition.proofs.Laws.{next-none, next-some}
+use Rattle.partition.specs.Format.{entry_at}
+use Rattle.partition.specs.Array.{Found, entry_place, present_from}
 use Rattle.tables.specs.Lens.{Side, Front, Back, Copy, Tables, side_of, copy_at, tables_at, tables}
 use Rattle.tables.specs.Entries.{entries_ok}
 use Rattle.tables.specs.Check.{room_check, table_check, bad_slot}
@@ -143,10 +141,8 @@ whole-array m l = array-inside m 0 (omega arith)
 pub slot-place : {k at : ℕ} (s : ℕ) → bad_slot s ≡ false → k ≡ s - 1 → at ≡ 0 + 128 * k → (at + 128 ≤ 16384) × (at ≡ entry_place 0 (s - 1))
 slot-place s h e f = let r = slot_ok s h in (omega (arith, r.1), omega arith)
 
-pub held-read : (arr : List ℕ) (s : ℕ) {at : ℕ} {b : Bool} {p : Partition} → at ≡ entry_place 0 (s - 1) → b ≡ not (all_zero (part arr at 128)) → p ≡ entry_at arr at
-    → record { verdict = accepted tt; value = record { present = b; partition = p } } ≡ reading_of (accepted (held_in arr s))
-unfolding beside
-held-read arr s e q r = rw (q, r, e)
+pub held-read : (arr : List ℕ) (s : ℕ) {at : ℕ} {g : Found} → at ≡ entry_place 0 (s - 1) → g ≡ record { present = not (all_zero (part arr at 128)); partition = entry_at arr at } → g ≡ held_in arr s
+held-read arr s e q = rw (q, e)
 
 -- ---- the calls
 
@@ -160,12 +156,10 @@ module _ (B : ℕ) (xs : List ℕ) {f : ℕ} (e : f ≡ (reader_check B (length 
   unfolding reader_slot_check
   slot-refuses s d = sym (found _ refl (λ z. d (e ∙ z)))
 
-  pub read-refused : (s : ℕ) {r : Refusal} → (f ≡ 0 → ⊥) → r ≡ refusal_of (plain f)
-      → record { verdict = refused_by r; value = record { present = false; partition = zero_partition } } ≡ reading_of (reader_slot B xs s)
-  unfolding beside
+  pub read-refused : (s : ℕ) {r : Refusal} → (f ≡ 0 → ⊥) → r ≡ refusal_of (plain f) → refused_by r ≡ reader_slot B xs s
   read-refused s d q =
-      ap (λ (w : Why). reading_of (refused w)) (reader-why B (length xs) (tables B xs) e d q)
-      ∙ sym (ap reading_of (ap (λ (w : Why). judged w (held_in (taken_array B (length xs) (tables B xs)) s)) (slot-refuses s d) ∙ judged-some _ (reader_check B (length xs) (tables B xs)) (λ z. d (e ∙ z))))
+      ap refused (reader-why B (length xs) (tables B xs) e d q)
+      ∙ sym (ap (λ (w : Why). judged w (held_in (taken_array B (length xs) (tables B xs)) s)) (slot-refuses s d) ∙ judged-some _ (reader_check B (length xs) (tables B xs)) (λ z. d (e ∙ z)))
 
   -- accepted
   module _ (z : f ≡ 0) where
@@ -175,27 +169,22 @@ module _ (B : ℕ) (xs : List ℕ) {f : ℕ} (e : f ≡ (reader_check B (length 
     pub room : (room_check B (length xs)).number ≡ 0
     room = read-room B (length xs) (tables B xs) (sym e ∙ z)
 
-    pub next-over : (after : ℕ) {s : ℕ} {arr : List ℕ} → arr ≡ taken_array B (length xs) (tables B xs) → s ≡ first_slot arr 0 128 after → s ≡ 0 → accepted [] ≡ reader_next B xs after
-    next-over after {s} {arr} l q y = accepts (sym (ap (λ (a : List ℕ). take 1 (present_from a 0 after (128 - after))) (sym l) ∙ next-none arr 0 128 after (sym q ∙ y)))
-
-    pub next-given : (after : ℕ) {s : ℕ} {arr : List ℕ} → arr ≡ taken_array B (length xs) (tables B xs) → s ≡ first_slot arr 0 128 after → (s ≡ 0 → ⊥) → accepted (s ∷ []) ≡ reader_next B xs after
-    next-given after {s} {arr} l q y =
-        accepts (sym (ap (λ (a : List ℕ). take 1 (present_from a 0 after (128 - after))) (sym l) ∙ next-some arr 0 128 after (λ x. y (q ∙ x)) ∙ ap (λ (i : ℕ). i ∷ []) (sym q)))
+    pub next-given : (after : ℕ) {l arr : List ℕ} → arr ≡ taken_array B (length xs) (tables B xs) → l ≡ take 1 (present_from arr 0 after (128 - after)) → accepted l ≡ reader_next B xs after
+    next-given after {l} {arr} e q = accepts (q ∙ ap (λ (a : List ℕ). take 1 (present_from a 0 after (128 - after))) e)
 
     slot-passed : (s : ℕ) → reader_slot_check B (length xs) (tables B xs) s ≡ when (bad_slot s) (plain 18)
     unfolding reader_slot_check
     slot-passed s = sym (past {f = reader_check B (length xs) (tables B xs)} refl (sym e ∙ z) refl)
 
-    pub read-bad : (s : ℕ) {t : Bool} → t ≡ bad_slot s → t ≡ true
-        → record { verdict = refused (plain 18); value = record { present = false; partition = zero_partition } } ≡ reading_of (reader_slot B xs s)
-    unfolding beside judged
+    pub read-bad : (s : ℕ) {t : Bool} → t ≡ bad_slot s → t ≡ true → refused (plain 18) ≡ reader_slot B xs s
+    unfolding judged
     read-bad s q t =
         let k : bad_slot s ≡ true = sym q ∙ t in
-        sym (ap (λ (w : Why). reading_of (judged w (held_in (taken_array B (length xs) (tables B xs)) s))) (slot-passed s ∙ ap (λ (b : Bool). when b (plain 18)) k))
+        sym (ap (λ (w : Why). judged w (held_in (taken_array B (length xs) (tables B xs)) s)) (slot-passed s ∙ ap (λ (b : Bool). when b (plain 18)) k))
 
-    pub read-given : (s : ℕ) {t : Bool} {arr : List ℕ} {v : Beside Found} → t ≡ bad_slot s → t ≡ false → arr ≡ taken_array B (length xs) (tables B xs) → v ≡ reading_of (accepted (held_in arr s)) → v ≡ reading_of (reader_slot B xs s)
+    pub read-given : (s : ℕ) {t : Bool} {arr : List ℕ} {g : Found} → t ≡ bad_slot s → t ≡ false → arr ≡ taken_array B (length xs) (tables B xs) → g ≡ held_in arr s → accepted g ≡ reader_slot B xs s
     unfolding judged
     read-given s {t} {arr} q h l v =
         let k : bad_slot s ≡ false = sym q ∙ h in
-        v ∙ ap (λ (a : List ℕ). reading_of (accepted (held_in a s))) l
-        ∙ sym (ap (λ (w : Why). reading_of (judged w (held_in (taken_array B (length xs) (tables B xs)) s))) (slot-passed s ∙ ap (λ (b : Bool). when b (plain 18)) k))
+        ap accepted (v ∙ ap (λ (a : List ℕ). held_in a s) l)
+        ∙ sym (ap (λ (w : Why). judged w (held_in (taken_array B (length xs) (tables B xs)) s)) (slot-passed s ∙ ap (λ (b : Bool). when b (plain 18)) k))

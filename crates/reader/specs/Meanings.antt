@@ -1,27 +1,35 @@
 -- What the answer of good_copy means: the side of the table that the reader takes, or the refusal. Two answers which mean the same are the same. Assumes nothing.
-use Rattle.std.specs.Prelude.{◌≡◌, refl}
+use Rattle.std.specs.Prelude.{◌≡◌, refl, Result, Ok, Err}
 use Rattle.std.proofs.Common.{ap}
-use Rattle.units.specs.Answer.{Answer, accepted}
-use Rattle.units.specs.Refusals.{refused_by, back}
-use Rattle.units.specs.Meanings.{made_by, one-meaning}
+use Rattle.units.specs.declared.Refusal.{Refusal}
+use Rattle.units.specs.Answer.{Answer, accepted, refused}
+use Rattle.units.specs.Refusals.{refused_by, refusal_of, back}
+use Rattle.units.specs.Meanings.{one-meaning}
 use Rattle.tables.specs.Lens.{Side, Front, Back}
 use Rattle.reader.specs.declared.GoodCopy.{GoodCopy}
 use Rattle.reader.specs.declared.GoodCopy.TheVariants as copy
 
-abbrev pub copy_means : GoodCopy → Answer Side
-copy_means copy.Front = accepted Front
-copy_means copy.Back = accepted Back
-copy_means (copy.Refused w) = refused_by w
+abbrev pub side_taken : GoodCopy → Side
+side_taken copy.Front = Front
+side_taken copy.Back = Back
+
+abbrev pub copy_means : Result GoodCopy Refusal → Answer Side
+copy_means (Ok c) = accepted (side_taken c)
+copy_means (Err w) = refused_by w
 
 copy_of : Side → GoodCopy
 copy_of Front = copy.Front
 copy_of Back = copy.Back
 
-copy-back : (r : GoodCopy) → made_by copy_of copy.Refused (copy_means r) ≡ r
-unfolding copy_of
-copy-back copy.Front = refl
-copy-back copy.Back = refl
-copy-back (copy.Refused w) = ap copy.Refused (back w)
+copy_from : Answer Side → Result GoodCopy Refusal
+copy_from (accepted s) = Ok (copy_of s)
+copy_from (refused y) = Err (refusal_of y)
 
-pub copy-one : (r s : GoodCopy) → copy_means r ≡ copy_means s → r ≡ s
-copy-one = one-meaning copy_means (made_by copy_of copy.Refused) copy-back
+copy-back : (r : Result GoodCopy Refusal) → copy_from (copy_means r) ≡ r
+unfolding copy_from copy_of
+copy-back (Ok copy.Front) = refl
+copy-back (Ok copy.Back) = refl
+copy-back (Err w) = ap Err (back w)
+
+pub copy-one : (r s : Result GoodCopy Refusal) → copy_means r ≡ copy_means s → r ≡ s
+copy-one = one-meaning copy_means copy_from copy-back

@@ -1,26 +1,24 @@
 // Leaves for our own crates: each `requires` is what its caller has tested. No public calls.
 // `copy` is one table's own b + 16,384 bytes, as in `tables::inner`; `len` is the card's length in bytes.
 ghost use Rattle.std.specs.Prelude.{◌≡◌, false, ◌+◌, ◌≤◌, length};
-ghost use Rattle.units.specs.Answer.{plain, beside, accepted};
+ghost use Rattle.units.specs.Answer.{plain};
 ghost use Rattle.units.specs.Refusals.{refusal_of};
-ghost use Rattle.crc32.specs.Rows.{Rows};
-ghost use Rattle.partition.specs.Array.{reading_of};
-ghost use Rattle.partition.specs.Meanings.{read_means};
+ghost use Rattle.partition.specs.Meanings.{found_of};
 ghost use Rattle.rows.specs.Plans.{Made, planned};
 ghost use Rattle.tables.specs.Lens.{side_of, copy_in, copies, tables};
 ghost use Rattle.tables.specs.Check.{room_check, bad_slot};
 ghost use Rattle.reader.specs.Reader.{passes, chosen_number, Chosen, takes_back, array_byte_place, held_in, reader_entries};
 
-use partition::PartitionRead;
+use partition::Partition;
 use rows::inner::Plan;
 use units::why::Why;
-use units::{BytePlace, Place, Refusal, Slot, Verdict};
+use units::{BytePlace, Place, Refusal, Slot};
 
 // Neither table passes.
 const NO_GOOD_COPY: u32 = 27;
 
 // What the reader found: the number that refuses the card, or 0; and whether the front table does not pass, so that it takes the back one.
-#[derive(Clone, Copy)]
+#[derive(Clone, Copy, Debug, PartialEq, Eq)]
 pub struct Choice {
     pub number: u32,
     pub back: bool,
@@ -42,13 +40,12 @@ impl Choice {
 }
 
 // Whether one table passes: its header, layout, array and entries.
-pub fn copy_passes<'a>(t: &'a [u32; 4096], copy: &'a [u8], len: usize, b: u64, back: bool) -> bool
-    requires rows { Rows 16 t.now }
-    requires len_value { ((room_check b len).number ≡ 0) × (length copy.now ≡ b + 16384) }
+pub fn copy_passes(copy: &[u8], len: usize, b: u64, back: bool) -> bool
+    requires { ((room_check b len).number ≡ 0) × (length copy.now ≡ b + 16384) }
     ensures { result ≡ passes b len (side_of back) (copy_in b (side_of back) copy.now) }
 {
-    let sum = tables::inner::array_sum(t, copy, b, back);
-    let found = checking::inner::copy_check(t, copy, len, b, back, sum);
+    let sum = tables::inner::array_sum(copy, b, back);
+    let found = checking::inner::copy_check(copy, len, b, back, sum);
     if found != 0 {
         return false;
     }
@@ -56,25 +53,18 @@ pub fn copy_passes<'a>(t: &'a [u32; 4096], copy: &'a [u8], len: usize, b: u64, b
 }
 
 // The table that the reader takes of two, on a card that has room for them: the front one if it passes, else the back one, else 27.
-pub fn choose_copy<'a>(
-    t: &'a [u32; 4096],
-    front: &'a [u8],
-    back: &'a [u8],
-    len: usize,
-    b: u64,
-) -> Choice
-    requires rows { Rows 16 t.now }
-    requires len_value { ((room_check b len).number ≡ 0) × (length front.now ≡ b + 16384) × (length back.now ≡ b + 16384) }
+pub fn choose_copy(front: &[u8], back: &[u8], len: usize, b: u64) -> Choice
+    requires { ((room_check b len).number ≡ 0) × (length front.now ≡ b + 16384) × (length back.now ≡ b + 16384) }
     ensures number_value { result.number ≡ chosen_number b len (copies b front.now back.now) }
     ensures back_value { result.back ≡ takes_back b len (copies b front.now back.now) }
 {
-    if copy_passes(t, front, len, b, false) {
+    if copy_passes(front, len, b, false) {
         return Choice {
             number: 0,
             back: false,
         };
     }
-    if copy_passes(t, back, len, b, true) {
+    if copy_passes(back, len, b, true) {
         return Choice {
             number: 0,
             back: true,
@@ -98,12 +88,10 @@ pub fn choose(img: &[u8], b: u64) -> Choice
             back: false,
         };
     }
-    let t = crc32::inner::table();
     let size = b as usize;
     let at = tables::inner::back_place(len, b);
     let from = at.0;
     choose_copy(
-        &t,
         &img[size..size + (size + 16384)],
         &img[from..from + (size + 16384)],
         len,
@@ -119,18 +107,14 @@ pub fn array_byte_place(len: usize, b: u64, back: bool) -> BytePlace
     units::inner::place(tables::inner::array_start(len, b, back), b)
 }
 
-// What a slot of an array holds.
-pub fn slot_in(array: &[u8], slot: Slot) -> PartitionRead
+// What a slot of an array holds: its record, if its entry is present.
+pub fn slot_in(array: &[u8], slot: Slot) -> Option<Partition>
     requires { (length array.now ≡ 16384) × (bad_slot slot.0 ≡ false) }
-    ensures { read_means result ≡ reading_of (accepted (held_in array.now slot.0)) }
+    ensures { found_of result ≡ held_in array.now slot.0 }
 {
     let k = units::inner::array_place(slot);
     let at = partition::inner::entry_place(BytePlace(0), k as usize);
-    PartitionRead {
-        verdict: Verdict::Accepted,
-        present: partition::inner::is_present(array, at.0),
-        partition: partition::inner::entry_at(array, at.0),
-    }
+    partition::inner::entry_if_present(array, at.0)
 }
 
 // The plan of the reader's list: every test but that of the row's length. 1, 8, 10, 27.

@@ -1,57 +1,28 @@
 // What each call answers to its arguments.
-ghost use Rattle.std.specs.Prelude.{◌≤◌, length};
-
+use crate::kinds::Kind;
 use crate::tape::Args;
 use crate::told::Answer;
-use crate::{entries, headers, kinds, mbrs};
+use crate::{entries, headers, mbrs};
 
-fn of_header(kind: u8, img: &mut [u8], args: &Args) -> Answer {
+pub fn answer(kind: Kind, img: &mut [u8], args: &Args) -> Answer {
     match kind {
-        kinds::READ_PRIMARY => headers::read_primary(img, args),
-        kinds::READ_BACKUP => headers::read_backup(img, args),
-        kinds::FIND_BACKUP => headers::find_backup(img, args),
-        kinds::ARRAY_SUM => headers::array_sum(img, args),
-        kinds::WRITE_PRIMARY => headers::write_primary(img, args),
-        kinds::WRITE_BACKUP => headers::write_backup(img, args),
-        kinds::BUILD => headers::build(args),
-        _ => headers::build_from_header(args),
+        Kind::ReadPrimary => headers::read_primary(img, args),
+        Kind::ReadBackup => headers::read_backup(img, args),
+        Kind::FindBackup => headers::find_backup(img, args),
+        Kind::ArraySum => headers::array_sum(img, args),
+        Kind::WritePrimary => headers::write_primary(img, args),
+        Kind::WriteBackup => headers::write_backup(img, args),
+        Kind::Build => headers::build(args),
+        Kind::BuildFromHeader => headers::build_from_header(args),
+        Kind::ReadArray => entries::read_array(img, args),
+        Kind::WriteEntry => entries::write_entry(img, args),
+        Kind::WriteZeros => entries::write_zeros(img, args),
+        Kind::Lengths => entries::lengths(args),
+        Kind::EntryBytes => entries::entry_bytes(args),
+        Kind::MbrFromBytes => mbrs::from_bytes(img, args),
+        Kind::MbrFromImage => mbrs::from_image(img, args),
+        Kind::MbrOverwrite => mbrs::overwrite(img, args),
+        Kind::MbrUpdate => mbrs::update(img, args),
+        Kind::MbrRecord => mbrs::record(args),
     }
-}
-
-fn of_entries(kind: u8, img: &mut [u8], args: &Args) -> Answer {
-    match kind {
-        kinds::READ_ARRAY => entries::read_array(img, args),
-        kinds::WRITE_ENTRY => entries::write_entry(img, args),
-        kinds::WRITE_ZEROS => entries::write_zeros(img, args),
-        kinds::LENGTHS => entries::lengths(args),
-        _ => entries::entry_bytes(args),
-    }
-}
-
-fn of_mbr(kind: u8, img: &mut [u8], args: &Args) -> Answer {
-    match kind {
-        kinds::MBR_FROM_BYTES => mbrs::from_bytes(img, args),
-        kinds::MBR_FROM_IMAGE => mbrs::from_image(img, args),
-        kinds::MBR_OVERWRITE => mbrs::overwrite(img, args),
-        kinds::MBR_UPDATE => mbrs::update(img, args),
-        _ => mbrs::record(args),
-    }
-}
-
-// Only a kind that calls something comes here.
-fn of_any(kind: u8, img: &mut [u8], args: &Args) -> Answer {
-    if kind < kinds::READ_ARRAY {
-        return of_header(kind, img, args);
-    }
-    if kind < kinds::MBR_FROM_BYTES {
-        return of_entries(kind, img, args);
-    }
-    of_mbr(kind, img, args)
-}
-
-// The image is the first len bytes.
-pub fn answer(kind: u8, img: &mut [u8], len: usize, args: &Args) -> Answer
-    requires { len ≤ length img.old }
-{
-    of_any(kind, &mut img[..len], args)
 }

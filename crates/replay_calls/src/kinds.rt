@@ -1,123 +1,201 @@
-// The kinds of steps: which there are, and how long the arguments and the answer of each are. README.md, beside the folder `src`, has the format.
+// The kinds of calls: which there are, and how long the arguments and the answer of each are. README.md, beside the folder `src`, has the format.
 ghost use Rattle.std.specs.Prelude.{◌≤◌};
 
-pub const END: u8 = 0x00;
+use std::error::Error;
+use std::fmt;
 
-pub const IMAGE: u8 = 0x01;
+// A call, with the number that it has on the tape.
+#[derive(Clone, Copy, Debug, PartialEq, Eq, PartialOrd, Ord)]
+pub enum Kind {
+    ReadPrimary = 0x10,
+    ReadBackup = 0x11,
+    FindBackup = 0x12,
+    ArraySum = 0x13,
+    WritePrimary = 0x14,
+    WriteBackup = 0x15,
+    Build = 0x16,
+    BuildFromHeader = 0x17,
+    ReadArray = 0x20,
+    WriteEntry = 0x21,
+    WriteZeros = 0x22,
+    Lengths = 0x23,
+    EntryBytes = 0x24,
+    MbrFromBytes = 0x30,
+    MbrFromImage = 0x31,
+    MbrOverwrite = 0x32,
+    MbrUpdate = 0x33,
+    MbrRecord = 0x34,
+}
 
-pub const STORE: u8 = 0x02;
+// A step of the tape: its end, an image of zeros, bytes stored in the image, or a call.
+#[derive(Clone, Copy, Debug, PartialEq, Eq)]
+pub enum Step {
+    End,
+    Image,
+    Store,
+    Call(Kind),
+}
 
-pub const READ_PRIMARY: u8 = 0x10;
+// A byte that begins no step.
+#[derive(Clone, Copy, Debug, PartialEq, Eq)]
+pub struct UnknownKind;
 
-pub const READ_BACKUP: u8 = 0x11;
-
-pub const FIND_BACKUP: u8 = 0x12;
-
-pub const ARRAY_SUM: u8 = 0x13;
-
-pub const WRITE_PRIMARY: u8 = 0x14;
-
-pub const WRITE_BACKUP: u8 = 0x15;
-
-pub const BUILD: u8 = 0x16;
-
-pub const BUILD_FROM_HEADER: u8 = 0x17;
-
-pub const READ_ARRAY: u8 = 0x20;
-
-pub const WRITE_ENTRY: u8 = 0x21;
-
-pub const WRITE_ZEROS: u8 = 0x22;
-
-pub const LENGTHS: u8 = 0x23;
-
-pub const ENTRY_BYTES: u8 = 0x24;
-
-pub const MBR_FROM_BYTES: u8 = 0x30;
-
-pub const MBR_FROM_IMAGE: u8 = 0x31;
-
-pub const MBR_OVERWRITE: u8 = 0x32;
-
-pub const MBR_UPDATE: u8 = 0x33;
-
-pub const MBR_RECORD: u8 = 0x34;
-
-// Whether a step of this kind calls something.
-pub fn is_call(kind: u8) -> bool {
-    match kind {
-        READ_PRIMARY..=BUILD_FROM_HEADER => true,
-        READ_ARRAY..=ENTRY_BYTES => true,
-        MBR_FROM_BYTES..=MBR_RECORD => true,
-        _ => false,
+impl fmt::Display for UnknownKind {
+    fn fmt<W: fmt::Write>(&self, f: &mut fmt::Formatter<W>) -> fmt::Result {
+        write!(f, "a step of an unknown kind")
     }
 }
 
-// How many bytes of arguments there are. Those of an MBR record are a length, and as many bytes more.
-pub fn arguments(kind: u8) -> usize
-    ensures { result ≤ 156 }
-{
-    match kind {
-        READ_PRIMARY | READ_BACKUP | FIND_BACKUP | MBR_FROM_BYTES | MBR_FROM_IMAGE => 8,
-        ARRAY_SUM | WRITE_PRIMARY | WRITE_BACKUP | BUILD_FROM_HEADER | READ_ARRAY => 92,
-        BUILD => 58,
-        WRITE_ENTRY => 156,
-        WRITE_ZEROS => 36,
-        LENGTHS => 24,
-        ENTRY_BYTES => 130,
-        MBR_OVERWRITE | MBR_UPDATE => 4,
-        _ => 1,
+impl Error for UnknownKind {}
+
+impl TryFrom<u8> for Kind {
+    type Error = UnknownKind;
+
+    fn try_from(byte: u8) -> Result<Kind, UnknownKind> {
+        match byte {
+            0x10 => Ok(Kind::ReadPrimary),
+            0x11 => Ok(Kind::ReadBackup),
+            0x12 => Ok(Kind::FindBackup),
+            0x13 => Ok(Kind::ArraySum),
+            0x14 => Ok(Kind::WritePrimary),
+            0x15 => Ok(Kind::WriteBackup),
+            0x16 => Ok(Kind::Build),
+            0x17 => Ok(Kind::BuildFromHeader),
+            0x20 => Ok(Kind::ReadArray),
+            0x21 => Ok(Kind::WriteEntry),
+            0x22 => Ok(Kind::WriteZeros),
+            0x23 => Ok(Kind::Lengths),
+            0x24 => Ok(Kind::EntryBytes),
+            0x30 => Ok(Kind::MbrFromBytes),
+            0x31 => Ok(Kind::MbrFromImage),
+            0x32 => Ok(Kind::MbrOverwrite),
+            0x33 => Ok(Kind::MbrUpdate),
+            0x34 => Ok(Kind::MbrRecord),
+            _ => Err(UnknownKind),
+        }
     }
 }
 
-// How many bytes of an answer are always there: its number, or the whole answer of a call that has no number of its own.
-pub fn first(kind: u8) -> usize
-    ensures { result ≤ 27 }
-{
-    match kind {
-        LENGTHS => 27,
-        ENTRY_BYTES => 4,
-        _ => 1,
+impl TryFrom<u8> for Step {
+    type Error = UnknownKind;
+
+    fn try_from(byte: u8) -> Result<Step, UnknownKind> {
+        match byte {
+            0x00 => Ok(Step::End),
+            0x01 => Ok(Step::Image),
+            0x02 => Ok(Step::Store),
+            _ => Ok(Step::Call(Kind::try_from(byte)?)),
+        }
     }
 }
 
-// How many bytes the values of an accepted call take.
-fn values(kind: u8) -> usize
-    ensures { result ≤ 88 }
-{
-    match kind {
-        READ_PRIMARY | READ_BACKUP | BUILD | BUILD_FROM_HEADER => 84,
-        WRITE_PRIMARY | WRITE_BACKUP => 88,
-        FIND_BACKUP | READ_ARRAY => 8,
-        ARRAY_SUM | MBR_FROM_BYTES | MBR_FROM_IMAGE => 4,
-        MBR_RECORD => 16,
-        _ => 0,
+impl Kind {
+    // How many bytes of arguments are always there. Those of an MBR record are a length, and as many bytes more.
+    pub fn arguments(self) -> usize
+        ensures { result ≤ 156 }
+    {
+        match self {
+            Kind::ReadPrimary
+            | Kind::ReadBackup
+            | Kind::FindBackup
+            | Kind::MbrFromBytes
+            | Kind::MbrFromImage => 8,
+            Kind::ArraySum
+            | Kind::WritePrimary
+            | Kind::WriteBackup
+            | Kind::BuildFromHeader
+            | Kind::ReadArray => 92,
+            Kind::Build => 58,
+            Kind::WriteEntry => 156,
+            Kind::WriteZeros => 36,
+            Kind::Lengths => 24,
+            Kind::EntryBytes => 130,
+            Kind::MbrOverwrite | Kind::MbrUpdate => 4,
+            Kind::MbrRecord => 1,
+        }
+    }
+
+    // How many bytes of an answer are always there: its number, or the whole answer of a call that has no number of its own.
+    pub fn first(self) -> usize
+        ensures { result ≤ 27 }
+    {
+        match self {
+            Kind::Lengths => 27,
+            Kind::EntryBytes => 4,
+            _ => 1,
+        }
+    }
+
+    // How many bytes the values of an accepted call take.
+    fn values(self) -> usize
+        ensures { result ≤ 88 }
+    {
+        match self {
+            Kind::ReadPrimary | Kind::ReadBackup | Kind::Build | Kind::BuildFromHeader => 84,
+            Kind::WritePrimary | Kind::WriteBackup => 88,
+            Kind::FindBackup | Kind::ReadArray => 8,
+            Kind::ArraySum | Kind::MbrFromBytes | Kind::MbrFromImage => 4,
+            Kind::MbrRecord => 16,
+            _ => 0,
+        }
+    }
+
+    // How many bytes the sum of the image takes: it follows what a call that can change the image answers.
+    fn sum(self) -> usize
+        ensures { result ≤ 4 }
+    {
+        match self {
+            Kind::WritePrimary
+            | Kind::WriteBackup
+            | Kind::WriteEntry
+            | Kind::WriteZeros
+            | Kind::MbrOverwrite
+            | Kind::MbrUpdate => 4,
+            _ => 0,
+        }
+    }
+
+    // How many bytes of an answer follow the first, where the number is this.
+    pub fn rest(self, number: u8) -> usize
+        ensures { result ≤ 92 }
+    {
+        if number == 0 {
+            self.values() + self.sum()
+        } else {
+            self.sum()
+        }
+    }
+
+    // How many bytes an answer has that begins with this byte.
+    pub fn length(self, number: u8) -> usize
+        ensures { result ≤ 119 }
+    {
+        self.first() + self.rest(number)
     }
 }
 
-// How many bytes the sum of the image takes: it follows what a call that can change the image answers.
-fn sum(kind: u8) -> usize
-    ensures { result ≤ 4 }
-{
-    match kind {
-        WRITE_PRIMARY | WRITE_BACKUP | WRITE_ENTRY | WRITE_ZEROS | MBR_OVERWRITE | MBR_UPDATE => 4,
-        _ => 0,
+// The calls that a kind stands for.
+impl fmt::Display for Kind {
+    fn fmt<W: fmt::Write>(&self, f: &mut fmt::Formatter<W>) -> fmt::Result {
+        match self {
+            Kind::ReadPrimary => write!(f, "read_primary_header"),
+            Kind::ReadBackup => write!(f, "read_backup_header"),
+            Kind::FindBackup => write!(f, "find_backup_lba"),
+            Kind::ArraySum => write!(f, "partentry_checksum"),
+            Kind::WritePrimary => write!(f, "write_primary"),
+            Kind::WriteBackup => write!(f, "write_backup"),
+            Kind::Build => write!(f, "build, new"),
+            Kind::BuildFromHeader => write!(f, "build, from_header"),
+            Kind::ReadArray => write!(f, "file_read_partitions"),
+            Kind::WriteEntry => write!(f, "write_to_device"),
+            Kind::WriteZeros => write!(f, "write_zero_entries_to_device"),
+            Kind::Lengths => write!(f, "sectors_len, bytes_len, bytes_start"),
+            Kind::EntryBytes => write!(f, "entry to a buffer"),
+            Kind::MbrFromBytes => write!(f, "MBR from_bytes"),
+            Kind::MbrFromImage => write!(f, "MBR from_image"),
+            Kind::MbrOverwrite => write!(f, "MBR overwrite_lba0"),
+            Kind::MbrUpdate => write!(f, "MBR update_conservative"),
+            Kind::MbrRecord => write!(f, "MBR record from_bytes"),
+        }
     }
-}
-
-// How many bytes of an answer follow the first, where the number is this.
-pub fn rest(kind: u8, number: u8) -> usize
-    ensures { result ≤ 92 }
-{
-    if number == 0 {
-        return values(kind) + sum(kind);
-    }
-    sum(kind)
-}
-
-// How many bytes an answer has that begins with this byte.
-pub fn length(kind: u8, number: u8) -> usize
-    ensures { result ≤ 119 }
-{
-    first(kind) + rest(kind, number)
 }

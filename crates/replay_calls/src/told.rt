@@ -1,72 +1,105 @@
 // Answers as the tape has them: the number, the values of an accepted call, and the sum of the image. What is left of the 128 bytes is zero, so two
 // answers are the same where all their bytes are.
-ghost use Rattle.std.specs.Prelude.{◌+◌, ◌≤◌, ◌≡◌, length};
-ghost use Rattle.units.specs.Bytes.{same as Bytes·same};
+ghost use Rattle.std.specs.Prelude.{◌+◌, ◌≤◌, length};
 
+use crate::kinds::Kind;
 use header::Header;
-use units::{Refusal, Stored};
+use std::fmt;
+use units::Refusal;
 
-pub type Answer = [u8; 128];
+#[derive(Clone, Copy, Debug, PartialEq, Eq)]
+pub struct Answer(pub [u8; 128]);
 
-fn low(n: u32) -> u8 {
-    (n % 256) as u8
-}
+impl Answer {
+    // A refusal: its number alone.
+    pub fn refused(w: Refusal) -> Answer {
+        Answer::numbered(w.number())
+    }
 
-// A refusal: its number alone.
-pub fn refused(w: Refusal) -> Answer {
-    let mut out = [0; 128];
-    out[0] = low(w.number());
-    out
-}
+    // An accepted call with no values.
+    pub fn accepted() -> Answer {
+        Answer([0; 128])
+    }
 
-// An accepted call with no values.
-pub fn accepted() -> Answer {
-    [0; 128]
-}
+    // A number alone. All numbers of refusals fit a byte.
+    pub fn numbered(number: u32) -> Answer {
+        Answer::accepted().with_byte(0, number)
+    }
 
-// The answer with a number of n bytes at a place.
-pub fn with_number(mut out: Answer, at: usize, n: usize, x: u64) -> Answer
-    requires { at + n ≤ 128 }
-{
-    units::inner::put_num(&mut out, at, n, x);
-    out
-}
+    // The answer with the low byte of a number at a place.
+    pub fn with_byte(self, at: usize, x: u32) -> Answer
+        requires { at + 1 ≤ 128 }
+    {
+        let mut bytes = self.0;
+        bytes[at] = (x & 0xFF) as u8;
+        Answer(bytes)
+    }
 
-// The answer with a header's bytes 8 to 91 at a place.
-pub fn with_header(mut out: Answer, at: usize, h: Header) -> Answer
-    requires { at + 84 ≤ 128 }
-{
-    let mut card = [0; 92];
-    header::inner::put_header(&mut card, 0, h);
-    units::inner::put_bytes(&mut out, at, &card[8..92]);
-    out
-}
+    // The answer with bytes at a place.
+    pub fn with_bytes(self, at: usize, bytes: &[u8]) -> Answer
+        requires { at + length bytes.now ≤ 128 }
+    {
+        let mut all = self.0;
+        all[at..at + bytes.len()].copy_from_slice(bytes);
+        Answer(all)
+    }
 
-// The answer with the sum of the image at a place.
-pub fn with_sum(out: Answer, at: usize, img: &[u8]) -> Answer
-    requires { at + 4 ≤ 128 }
-{
-    with_number(out, at, 4, crc32::crc32(img) as u64)
-}
+    pub fn with_u32(self, at: usize, x: u32) -> Answer
+        requires { at + 4 ≤ 128 }
+    {
+        self.with_bytes(at, &x.to_le_bytes())
+    }
 
-// The answer with bytes at a place.
-pub fn with_bytes(mut out: Answer, at: usize, bytes: &[u8]) -> Answer
-    requires { at + length bytes.now ≤ 128 }
-{
-    units::inner::put_bytes(&mut out, at, bytes);
-    out
-}
+    pub fn with_u64(self, at: usize, x: u64) -> Answer
+        requires { at + 8 ≤ 128 }
+    {
+        self.with_bytes(at, &x.to_le_bytes())
+    }
 
-// What a call that stores bytes answers, and the sum of the image.
-pub fn stored(r: Stored, img: &[u8]) -> Answer {
-    match r {
-        Stored::Refused(w) => with_sum(refused(w), 1, img),
-        Stored::Bytes(_n) => with_sum(accepted(), 1, img),
+    // The answer with a header's bytes 8 to 91 at a place.
+    pub fn with_header(self, at: usize, h: Header) -> Answer
+        requires { at + 84 ≤ 128 }
+    {
+        let mut card = [0; 92];
+        header::inner::put_header(&mut card, 0, h);
+        self.with_bytes(at, &card[8..])
+    }
+
+    // The answer with the sum of the image at a place.
+    pub fn with_sum(self, at: usize, img: &[u8]) -> Answer
+        requires { at + 4 ≤ 128 }
+    {
+        self.with_u32(at, crc32::crc32(img))
+    }
+
+    // What a call that stores bytes answers, and the sum of the image.
+    pub fn stored(r: Result<usize, Refusal>, img: &[u8]) -> Answer {
+        match r {
+            Err(w) => Answer::refused(w).with_sum(1, img),
+            Ok(_n) => Answer::accepted().with_sum(1, img),
+        }
+    }
+
+    // The answer as the tape has it for a call of this kind.
+    pub fn to(self, kind: Kind) -> Told {
+        Told { answer: self, kind }
     }
 }
 
-pub fn same(a: Answer, b: Answer) -> bool
-    ensures { result ≡ Bytes·same a b }
-{
-    units::inner::same_at(&a, 0, &b)
+// An answer to a call of a kind, as it stands on the tape, in hexadecimal digits with nothing between them.
+#[derive(Clone, Copy)]
+pub struct Told {
+    answer: Answer,
+    kind: Kind,
+}
+
+impl fmt::Display for Told {
+    fn fmt<W: fmt::Write>(&self, f: &mut fmt::Formatter<W>) -> fmt::Result {
+        let bytes = self.answer.0;
+        let n = self.kind.length(bytes[0]);
+        for byte in &bytes[..n] {
+            write!(f, "{byte:02x}")?;
+        }
+        Ok(())
+    }
 }

@@ -7,7 +7,7 @@ use Prim.Native.Nat.{ℕ, zero, suc, ◌+◌, ◌*◌, ◌-◌, ◌^◌, ◌≤�
 use native.Mathlib.Nat.{sub-zero}
 use native.Mathlib.Omega.{arith}
 use lib.Dec.{eqb, ltb, leb}
-use lib.ListN.{length, take, drop, get_or, set}
+use lib.ListN.{length, take, drop, get_or, set, drop_of_length-le}
 use Rattle.std.proofs.lemmas.List.{append_assoc, append-nil, take_more_set, take-append-drop, drop-set-lt, nil_from_length}
 use Rattle.std.proofs.lemmas.Grind.{drop_more_same}
 use borrow.Author.Tests.{ltb-false, lt-ltb, le-ltb}
@@ -16,7 +16,7 @@ use Rattle.units.specs.declared.Slot.{Slot}
 use Rattle.units.specs.declared.Reason.{Reason}
 use Rattle.units.specs.declared.Refusal.{Refusal}
 use Rattle.units.specs.declared.Refusal.TheVariants as refusal
-use Rattle.units.specs.declared.CardVerdict.TheVariants as verdict
+use Rattle.std.specs.Prelude.{Ok}
 use Rattle.units.specs.declared.why.Why.{Why}
 use Rattle.units.specs.Answer.{Answer, accepted, refused, refuse, pick, and_then}
 use Rattle.units.specs.Bytes.{part}
@@ -28,7 +28,7 @@ use Rattle.crc32.specs.Crc.{crc}
 use Rattle.header.specs.declared.Header.{Header}
 use Rattle.partition.specs.declared.Partition.{Partition}
 use Rattle.partition.specs.Format.{entry_at}
-use Rattle.partition.specs.Array.{present, present_from, first_slot, array_found}
+use Rattle.partition.specs.Array.{present, present_from, array_found}
 use Rattle.rows.specs.declared.Entry.{Entry}
 use Rattle.rows.specs.declared.inner.Plan.{Plan}
 use Rattle.rows.specs.Slots.{slots_from, first_after, place_each, typed_each}
@@ -68,7 +68,7 @@ module _ (xs : List ℕ) where
   -- the plan that lists an array
   module _ (at : BytePlace) (n k : ℕ) (i : inside_or_empty (length xs) at.0 (n * 128) ≡ true) (e : k ≡ length (present_from xs at.0 0 n)) where
     abbrev listing : Plan
-    listing = record { place = at; entries = n; each = 128; by_type = false; present = k; verdict = verdict.Accepted }
+    listing = record { place = at; entries = n; each = 128; by_type = false; present = k; verdict = Ok tt }
 
     -- what it lists are the present entries
     listed : entries_by xs listing ≡ present_entries xs at.0 n
@@ -90,7 +90,7 @@ module _ (xs : List ℕ) where
   module _ (at : BytePlace) (n each k : ℕ) (g : 128 ≤ each) (i : inside_or_empty (length xs) at.0 (n * each) ≡ true)
       (e : k ≡ length (slots_from (typed_each xs each at.0) 0 n)) where
     abbrev by-type : Plan
-    by-type = record { place = at; entries = n; each = each; by_type = true; present = k; verdict = verdict.Accepted }
+    by-type = record { place = at; entries = n; each = each; by_type = true; present = k; verdict = Ok tt }
 
     pub made-by-type : Made xs by-type × (planned xs by-type ≡ accepted (typed_entries xs each at.0 n))
     unfolding planned entries_by typed_entries
@@ -269,6 +269,11 @@ module _ (xs : List ℕ) (p : Plan) where
 
 -- ---- the next slot, by the types and by the 128 bytes
 
+-- the first of a list's first
+head-taken : {k : ℕ} {o : List ℕ} (l : List ℕ) → k ≡ get_or o 0 0 → o ≡ take 1 l → k ≡ get_or l 0 0
+head-taken [] e f = e ∙ ap (λ (x : List ℕ). get_or x 0 0) f
+head-taken (x ∷ l) e f = e ∙ ap (λ (x : List ℕ). get_or x 0 0) f
+
 module _ (xs : List ℕ) (p : Plan) (s : Slot) where
   test : Bool → ℕ → Bool
   test t k = pick t (typed_each xs p.each p.place.0 k) (present xs p.place.0 k)
@@ -277,13 +282,13 @@ module _ (xs : List ℕ) (p : Plan) (s : Slot) where
   unfolding slot_after test
   after-by t e f = ap (λ (x : ℕ). record { 0 = x }) (f ∙ ap (λ (v : Bool). first_after (test v) p.entries s.0) (sym e))
 
-  pub after-by-type : {k : Slot} → p.by_type ≡ true → k.0 ≡ first_after (typed_each xs p.each p.place.0) p.entries s.0 → k ≡ slot_after xs p s
-  unfolding test
-  after-by-type e f = after-by true e f
+  pub after-by-type : {k : Slot} {o : List ℕ} → p.by_type ≡ true → k.0 ≡ get_or o 0 0 → o ≡ take 1 (slots_from (typed_each xs p.each p.place.0) s.0 (p.entries - s.0)) → k ≡ slot_after xs p s
+  unfolding test first_after
+  after-by-type e f g = after-by true e (head-taken _ f g)
 
-  pub after-whole : {k : Slot} → p.by_type ≡ false → k.0 ≡ first_slot xs p.place.0 p.entries s.0 → k ≡ slot_after xs p s
-  unfolding test first_slot first_after
-  after-whole e f = after-by false e (f ∙ ap (λ (l : List ℕ). get_or l 0 0) (first-edition xs p.place.0 s.0 (p.entries - s.0)))
+  pub after-whole : {k : Slot} {o : List ℕ} → p.by_type ≡ false → k.0 ≡ get_or o 0 0 → o ≡ take 1 (present_from xs p.place.0 s.0 (p.entries - s.0)) → k ≡ slot_after xs p s
+  unfolding test first_after
+  after-whole e f g = after-by false e (head-taken _ f g ∙ ap (λ (l : List ℕ). get_or l 0 0) (first-edition xs p.place.0 s.0 (p.entries - s.0)))
 
 -- ---- a plan that was carried out
 
@@ -334,6 +339,15 @@ module _ (row : List Entry) (i : ℕ) where
       let z : l ≡ [] = nil_from_length l n in
       let k : take i row ≡ es = rw (z, append-nil) at e in
       sym (take-append-drop i row) ∙ ap (λ (p : List Entry). p ++ drop i row) k ∙ ap (λ (p : List Entry). es ++ p) (f ∙ ap (λ (j : ℕ). drop j was) h)
+
+-- the same of the places alone, which the rest of the row stands behind
+pub places_all : (items : List Entry) (i n : ℕ) (l es row : List Entry) → length l ≡ 0 → length items ≤ i → length items ≡ n → take i items ++ l ≡ es
+    → items ++ drop n row ≡ es ++ drop (length es) row
+places_all items i n l es row e h m f =
+    let z : l ≡ [] = nil_from_length l e in
+    let k : take i items ≡ es = rw (z, append-nil) at f in
+    let w : items ≡ es = sym (take-append-drop i items) ∙ rw (drop_of_length-le items h, append-nil) k in
+    ap (λ (p : List Entry). p ++ drop n row) w ∙ ap (λ (j : ℕ). es ++ drop j row) (sym m ∙ ap length w)
 
 -- ---- a call that fills a lent row: its plan says what is asked, the row is filled by it, and the answer is what is shown of the count
 

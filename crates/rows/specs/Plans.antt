@@ -1,8 +1,7 @@
 -- A reading before a row is lent to it: a plan by value, which says where the array stands, how many of its entries are listed, and whether the reading accepts.
 -- Every call that fills a row makes such a plan; only 15 depends on the row. From document 01, "Reading the array" and "Listing". Assumes nothing.
-use Rattle.std.specs.Prelude.{◌≡◌, Bool, true, false, List, map, ℕ, ◌*◌, ◌≤◌, ltb, length}
+use Rattle.std.specs.Prelude.{◌≡◌, Result, Ok, Err, Bool, true, false, List, map, ℕ, ◌*◌, ◌≤◌, ltb, length}
 use Rattle.units.specs.declared.Slot.{Slot}
-use Rattle.units.specs.declared.CardVerdict.TheVariants as verdict
 use Rattle.units.specs.declared.Place.TheVariants as place
 use Rattle.units.specs.declared.Reason.{Reason}
 use Rattle.units.specs.declared.Refusal.{Refusal}
@@ -55,7 +54,7 @@ pub record Made (xs : List ℕ) (p : Plan) : Type 0 where
 
 -- a refusal's plan
 abbrev pub no_plan : Reason → Plan
-no_plan w = record { place = record { 0 = 0 }; entries = 0; each = 128; by_type = false; present = 0; verdict = verdict.Refused w }
+no_plan w = record { place = record { 0 = 0 }; entries = 0; each = 128; by_type = false; present = 0; verdict = Err w }
 
 -- a refusal that names no place
 abbrev pub nowhere : Refusal → Reason

@@ -1,8 +1,9 @@
 // Leaves for our own crates: entries of any size from 128 bytes on, of which those count whose type is not nil. Each `requires` is what its caller has tested.
-ghost use Rattle.std.specs.Prelude.{◌≡◌, true, not, ◌+◌, ◌*◌, ◌^◌, ◌≤◌, ◌<◌, length};
+ghost use Rattle.std.specs.Prelude.{◌≡◌, true, not, ◌+◌, ◌*◌, ◌^◌, ◌≤◌, ◌<◌, ◌-◌, length, take};
 ghost use Rattle.units.specs.Places.{inside_or_empty};
 ghost use Rattle.partition.specs.Format.{nil_type_at};
-ghost use Rattle.rows.specs.Slots.{slots_from, first_after, place_each, typed_each};
+ghost use Rattle.partition.specs.Meanings.{slots_of};
+ghost use Rattle.rows.specs.Slots.{slots_from, place_each, typed_each};
 
 use units::{BytePlace, Slot};
 
@@ -27,28 +28,24 @@ pub fn count_used(s: &[u8], at: BytePlace, each: u32, count: u32) -> u32
     requires { (128 ≤ each) × (inside_or_empty (length s.now) at.0 (count * each) ≡ true) }
     ensures { result ≡ length (slots_from (typed_each s.now each at.0) 0 count) }
 {
-    let mut n = 0u32;
-    let mut k = 0u32;
-    while k < count {
+    let mut n = 0;
+    for k in 0..count {
         if is_used(s, entry_place(at, each, k)) {
             n += 1;
         }
-        k += 1;
     }
     n
 }
 
-// The first used slot after a slot, among the count entries from a place on; slot 0 where there is none.
-pub fn next_used(s: &[u8], at: BytePlace, each: u32, count: u32, after: Slot) -> Slot
+// The first used slot after a slot, among the count entries from a place on.
+pub fn next_used(s: &[u8], at: BytePlace, each: u32, count: u32, after: Slot) -> Option<Slot>
     requires { (128 ≤ each) × (inside_or_empty (length s.now) at.0 (count * each) ≡ true) }
-    ensures { result.0 ≡ first_after (typed_each s.now each at.0) count after.0 }
+    ensures { slots_of result ≡ take 1 (slots_from (typed_each s.now each at.0) after.0 (count - after.0)) }
 {
-    let mut k = after.0;
-    while k < count {
+    for k in after.0..count {
         if is_used(s, entry_place(at, each, k)) {
-            return units::inner::slot_at(k);
+            return Some(units::inner::slot_at(k));
         }
-        k += 1;
     }
-    Slot(0)
+    None
 }

@@ -1,13 +1,14 @@
 // Leaves for our own crates: each `requires` is what its caller has tested. No public calls.
 // A reading is first planned by value, which makes every test but that of the row's length.
 // Then `fill` fills the row, or `fill_bytes` lent bytes, 136 a row, for callers to whom a row of records cannot be lent.
-ghost use Rattle.std.specs.Prelude.{◌≡◌, true, ◌+◌, ◌*◌, ◌-◌, ◌/◌, ◌^◌, ◌≤◌, ◌<◌, length};
+ghost use Rattle.units.specs.Meanings.{means};
+ghost use Rattle.std.specs.Prelude.{◌≡◌, true, ◌+◌, ◌*◌, ◌-◌, ◌/◌, ◌^◌, ◌≤◌, ◌<◌, length, get_or};
 ghost use Rattle.std.specs.Fn.{FnOnceReturnsAt};
 ghost use Rattle.std.proofs.lemmas.List.Edits.{sets};
 ghost use Rattle.units.specs.Answer.{accepted, Ends};
 ghost use Rattle.units.specs.Places.{inside_or_empty};
 ghost use Rattle.partition.specs.Flags.{Joins};
-ghost use Rattle.partition.specs.Meanings.{count_means};
+ghost use Rattle.partition.specs.Meanings.{slots_of};
 ghost use Rattle.rows.specs.Slots.{place_each};
 ghost use Rattle.rows.specs.Row.{present_entries, typed_entries, row_outcome, RowEnds};
 ghost use Rattle.rows.specs.RowBytes.{row_bytes, bytes_outcome};
@@ -15,8 +16,8 @@ ghost use Rattle.rows.specs.Plans.{Lies, InArray, Made, entry_by, slot_after, pl
 
 use crate::{Entry, by_type};
 use header::Header;
-use partition::PartitionCount;
-use units::{BytePlace, CardVerdict, Place, Placed, Reason, Refusal, Slot};
+use units::inner::Field;
+use units::{BytePlace, Place, Reason, Refusal, Slot};
 
 // Where an array stands, how many entries it has and of how many bytes, whether those count whose type is not nil, or whose 128 bytes are not all zero, how many these are, and
 // whether the reading accepts. A refusal has no entries, and the place that it names.
@@ -27,7 +28,7 @@ pub struct Plan {
     pub each: u32,
     pub by_type: bool,
     pub present: u32,
-    pub verdict: CardVerdict,
+    pub verdict: Result<(), Reason>,
 }
 
 impl Plan {
@@ -41,7 +42,7 @@ impl Plan {
             each: 128,
             by_type: false,
             present: 0,
-            verdict: CardVerdict::Refused(w),
+            verdict: Err(w),
         }
     }
 
@@ -68,7 +69,7 @@ impl Plan {
             each: 128,
             by_type: false,
             present,
-            verdict: CardVerdict::Accepted,
+            verdict: Ok(()),
         }
     }
 
@@ -84,7 +85,7 @@ impl Plan {
             each,
             by_type: true,
             present,
-            verdict: CardVerdict::Accepted,
+            verdict: Ok(()),
         }
     }
 
@@ -106,15 +107,15 @@ impl Plan {
     }
 
     // The count, or the refusal without a place, for the calls that name none.
-    pub fn answer(self) -> PartitionCount
-        ensures { count_means result ≡ plainly (plan_count self) }
+    pub fn answer(self) -> Result<u32, Refusal>
+        ensures { means result ≡ plainly (plan_count self) }
     {
         let verdict = self.verdict;
         match verdict {
-            CardVerdict::Accepted => PartitionCount::Present(self.present),
-            CardVerdict::Refused(w) => {
+            Ok(()) => Ok(self.present),
+            Err(w) => {
                 let what = w.what;
-                PartitionCount::Refused(what)
+                Err(what)
             }
         }
     }
@@ -125,8 +126,17 @@ impl Plan {
         ensures { result.0 ≡ place_each self.each self.place.0 (s.0 - 1) }
     {
         let k = units::inner::array_place(s);
-        let at = self.place;
-        by_type::entry_place(at, self.each, k)
+        by_type::entry_place(self.place, self.each, k)
+    }
+}
+
+// The slot, or slot 0, which stands before the first.
+fn or_before_first(slot: Option<Slot>) -> Slot
+    ensures { result.0 ≡ get_or (slots_of slot) 0 0 }
+{
+    match slot {
+        Some(s) => s,
+        None => Slot(0),
     }
 }
 
@@ -135,11 +145,10 @@ pub fn next_slot(img: &[u8], p: Plan, after: Slot) -> Slot
     requires { Lies img.now p }
     ensures { result ≡ slot_after img.now p after }
 {
-    let place = p.place;
     if p.by_type {
-        return by_type::next_used(img, place, p.each, p.entries, after);
+        return or_before_first(by_type::next_used(img, p.place, p.each, p.entries, after));
     }
-    partition::inner::next_present(img, place.0, p.entries, after)
+    or_before_first(partition::inner::next_present(img, p.place.0, p.entries, after))
 }
 
 // The entry in a slot of the array, by value.
@@ -148,8 +157,7 @@ pub fn entry_in(img: &[u8], p: Plan, s: Slot) -> Entry
     ensures { result ≡ entry_by img.now p s }
 {
     let place = p.entry_place(s);
-    let at = place.0;
-    let partition = partition::inner::entry_at(img, at);
+    let partition = partition::inner::entry_at(img, place.0);
     Entry { slot: s, partition }
 }
 
@@ -158,8 +166,8 @@ pub fn plan_for(img: &[u8], h: Header, b: u64) -> Plan
     ensures { Made img.now result × (planned img.now result ≡ entries_found img.now h b) }
 {
     match partition::inner::find_array(img, h, b) {
-        Placed::Refused(w) => Plan::refused_plainly(w),
-        Placed::At(at) => Plan::listing(img, at, h.num_parts),
+        Err(w) => Plan::refused_plainly(w),
+        Ok(at) => Plan::listing(img, at, h.num_parts),
     }
 }
 
@@ -168,15 +176,12 @@ pub fn fill(img: &[u8], p: Plan, row: &mut [Entry]) -> Plan
     requires { Made img.now p }
     ensures { RowEnds (row_outcome (roomed (length row.old) (planned img.now p)) row.old) (plan_count result) row.new }
 {
-    let n = row.len();
-    let q = p.within(n);
+    let q = p.within(row.len());
     let count = q.places();
-    let mut i = 0;
     let mut at = Slot(0);
-    while i < count {
+    for entry in &mut row[..count] {
         at = next_slot(img, q, at);
-        row[i] = entry_in(img, q, at);
-        i = i + 1;
+        *entry = entry_in(img, q, at);
     }
     q
 }
@@ -208,7 +213,7 @@ fn put_row(out: &mut [u8], at: BytePlace, e: Entry)
     let a = at.0;
     let slot = e.slot;
     let record = e.partition;
-    units::inner::put_num(out, a, 8, slot.0 as u64);
+    u64::from(slot.0).put(out, a);
     partition::inner::put_entry(out, a + 8, record);
 }
 
@@ -219,13 +224,12 @@ pub fn fill_bytes(img: &[u8], p: Plan, out: &mut [u8]) -> Plan
 {
     let q = p.within(out.len() / 136);
     let count = q.places();
-    let mut i = 0;
     let mut at = Slot(0);
-    while i < count {
+    // By number: of bytes that `chunks_exact_mut` has lent, a proof knows the length alone.
+    for i in 0..count {
         at = next_slot(img, q, at);
         let e = entry_in(img, q, at);
         put_row(out, BytePlace(136 * i), e);
-        i += 1;
     }
     q
 }

@@ -4,10 +4,13 @@
 #![tactic(auto)]
 
 use console::Output;
-use listing::CardCount;
 use partition::{Flags, Partition};
+use std::io;
 use std::io::Write;
 use units::{Guid, Lba, Slot, Tail};
+
+const USAGE: &str =
+    "usage: sample > IMAGE (65,536 bytes; the exit status is always 0, so read what is printed on standard error)\n";
 
 // The GUIDs of the sample differ in their last byte alone.
 fn sample_guid(last: u8) -> Guid {
@@ -29,26 +32,17 @@ fn basic_data() -> Guid {
     }
 }
 
-fn wide(letter: u8) -> u16 {
-    letter as u16
-}
-
-// Unit i of a name of ASCII letters: 0 after its end.
-fn unit_of(text: &[u8], i: usize) -> u16 {
-    if i < text.len() { wide(text[i]) } else { 0 }
-}
-
 // The units of a name, cut at 36.
-fn name_of(text: &[u8]) -> [u16; 36] {
-    let mut name = [0u16; 36];
-    for i in 0..36 {
-        name[i] = unit_of(text, i);
+fn name_of(text: &str) -> [u16; 36] {
+    let mut name = [0; 36];
+    for (unit, letter) in name.iter_mut().zip(text.encode_utf16()) {
+        *unit = letter;
     }
     name
 }
 
 // The record of a slot's partition.
-fn record(slot: u8, from: u64, to: u64, text: &[u8]) -> Partition {
+fn record(slot: u8, from: u64, to: u64, text: &str) -> Partition {
     Partition {
         part_type_guid: basic_data(),
         part_guid: sample_guid(slot),
@@ -59,53 +53,45 @@ fn record(slot: u8, from: u64, to: u64, text: &[u8]) -> Partition {
     }
 }
 
-fn put(img: &mut [u8], slot: u8, from: u64, to: u64, text: &[u8]) {
-    card::put(img, 512, Slot(slot as u32), record(slot, from, to, text));
+fn put(img: &mut [u8], slot: u8, from: u64, to: u64, text: &str) {
+    let _ = card::put(img, 512, Slot(slot as u32), record(slot, from, to, text));
 }
 
 fn fill(img: &mut [u8]) {
-    card::lay(img, 512, sample_guid(0));
-    put(img, 1, 34, 65, b"map 2026-11-15");
-    put(img, 2, 66, 85, b"roads");
-    put(img, 3, 86, 94, b"notes");
+    let _ = card::lay(img, 512, sample_guid(0));
+    put(img, 1, 34, 65, "map 2026-11-15");
+    put(img, 2, 66, 85, "roads");
+    put(img, 3, 86, 94, "notes");
 }
 
 // How many slots a card has in use, or 0 of a card that is refused.
 fn used(img: &[u8]) -> u32 {
     match card::count_used(img, 512) {
-        CardCount::Used(n) => n,
-        CardCount::Refused(_w) => 0,
+        Ok(n) => n,
+        Err(_w) => 0,
     }
 }
 
 // Writes the card if it holds its three slots.
-fn write(img: &[u8], out: &mut Output<impl Write>, errors: &mut impl Write) {
-    if used(img) == 3 {
-        out.text(img);
-    } else {
-        console::complain(errors, b"sample: a call was refused\n");
+fn run(rt: &HostRuntime, out: &mut Output<io::Stdout>) -> io::Result<()> {
+    if !console::no_arguments(rt, USAGE.as_bytes(), out, &mut rt.stderr()) {
+        return Ok(());
     }
-}
-
-fn run(out: &mut Output<impl Write>, errors: &mut impl Write) {
-    let mut img = [0u8; 65536];
+    let mut img = [0; 65536];
     fill(&mut img);
-    write(&img, out, errors);
+    if used(&img) == 3 {
+        out.write_all(&img)
+    } else {
+        let _ = eprintln!(rt; "sample: a call was refused");
+        Ok(())
+    }
 }
 
 // The exit status is always 0, as the usage line says.
 fn main(rt: HostRuntime) {
     let mut out = Output::new(rt.stdout());
-    let mut errors = rt.stderr();
-    if console::no_arguments(
-        &rt,
-        b"usage: sample > IMAGE (65,536 bytes; the exit status is always 0, so read what is printed on standard error)\n",
-        &mut out,
-        &mut errors,
-    ) {
-        run(&mut out, &mut errors);
-    }
-    if !out.is_ok() {
-        console::complain(&mut errors, b"sample: cannot write the output\n");
+    let ended = run(&rt, &mut out);
+    if let Some(failure) = out.failure(&ended) {
+        let _ = eprintln!(rt; "sample: {failure}");
     }
 }

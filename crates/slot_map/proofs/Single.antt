@@ -11,8 +11,8 @@ use lib.Seq.{take_at, drop_at}
 use Rattle.units.specs.Answer.{pick}
 use Rattle.units.specs.Refusals.{why_at, reason_of, reason-back}
 use Rattle.slot_map.specs.declared.SlotMap.{SlotMap}
-use Rattle.slot_map.specs.declared.MapMade.{MapMade}
-use Rattle.slot_map.specs.declared.MapMade.TheVariants as made
+use Rattle.units.specs.declared.Reason.{Reason}
+use Rattle.std.specs.Prelude.{Result, Ok, Err}
 use Rattle.slot_map.specs.Map.{made_means}
 use Rattle.slot_map.specs.Bits.{bits_of, map_of}
 use Rattle.slot_map.proofs.BitLaws.{parity, length-bits}
@@ -42,16 +42,16 @@ map-one m n a b c d e =
     ap (λ (i : ℕ). record { low = i; high = m.high }) x ∙ ap (λ (i : ℕ). record { low = n.low; high = i }) y
 
 -- so two answers of the making which mean the same are the same
-pub record FitMade (r : MapMade) : Type 0 where
-  pub low : (m : SlotMap) → r ≡ made.Map m → m.low < 2 ^ 64
-  pub high : (m : SlotMap) → r ≡ made.Map m → m.high < 2 ^ 64
+pub record FitMade (r : Result SlotMap Reason) : Type 0 where
+  pub low : (m : SlotMap) → r ≡ Ok m → m.low < 2 ^ 64
+  pub high : (m : SlotMap) → r ≡ Ok m → m.high < 2 ^ 64
 
-pub made_one : (r s : MapMade) → FitMade r → FitMade s → made_means r ≡ made_means s → r ≡ s
-made_one (made.Map m) (made.Map n) f g e =
+pub made_one : (r s : Result SlotMap Reason) → FitMade r → FitMade s → made_means r ≡ made_means s → r ≡ s
+made_one (Ok m) (Ok n) f g e =
     let q : map_of m ≡ map_of n = cc in
-    ap made.Map (map-one m n (f.low m refl) (f.high m refl) (g.low n refl) (g.high n refl) q)
-made_one (made.Map m) (made.Refused w) f g e = let z : ◌≡◌ {A = ℕ} 0 1 = cc in absurd (omega arith)
-made_one (made.Refused v) (made.Map n) f g e = let z : ◌≡◌ {A = ℕ} 0 1 = cc in absurd (omega arith)
-made_one (made.Refused v) (made.Refused w) f g e =
+    ap Ok (map-one m n (f.low m refl) (f.high m refl) (g.low n refl) (g.high n refl) q)
+made_one (Ok m) (Err w) f g e = let z : ◌≡◌ {A = ℕ} 0 1 = cc in absurd (omega arith)
+made_one (Err v) (Ok n) f g e = let z : ◌≡◌ {A = ℕ} 0 1 = cc in absurd (omega arith)
+made_one (Err v) (Err w) f g e =
     let q : why_at v ≡ why_at w = cc in
-    ap made.Refused (sym (reason-back v) ∙ ap reason_of q ∙ reason-back w)
+    ap Err (sym (reason-back v) ∙ ap reason_of q ∙ reason-back w)

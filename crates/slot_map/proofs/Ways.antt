@@ -10,10 +10,10 @@ use lib.Seq.{take_all}
 use Rattle.units.specs.declared.why.Why.{Why}
 use Rattle.units.specs.declared.Slot.{Slot}
 use Rattle.units.specs.declared.Reason.{Reason}
-use Rattle.units.specs.Answer.{Answer, accepted, refused, refuse, Outcome, Ends, if_zero, judged}
+use Rattle.units.specs.Answer.{Answer, accepted, refused, refuse, Outcome, Ends}
 use Rattle.units.specs.Bytes.{part, all_zero}
 use Rattle.units.specs.Refusals.{why_at, reason_of}
-use Rattle.units.proofs.Chains.{Named, number-of}
+use Rattle.units.proofs.Chains.{number-of, judged-none, judged-some}
 use Rattle.units.proofs.Lists.{length-lent}
 use Rattle.partition.specs.declared.Partition.{Partition}
 use Rattle.partition.specs.Array.{present}
@@ -27,11 +27,8 @@ use Rattle.card.specs.Calls.{put_at, put_bytes, put_outcome, clear_at, clear_out
 use Rattle.history.specs.History.{taken}
 use Rattle.history.proofs.State.{taken-zero}
 use Rattle.history.proofs.Changes.{put-ok, clear-slot}
-use Rattle.slot_map.specs.declared.SlotMap.{SlotMap}
-use Rattle.slot_map.specs.declared.MapMade.{MapMade}
-use Rattle.slot_map.specs.declared.MapMade.TheVariants as made
-use Rattle.slot_map.specs.Bits.{bits_of, map_of, first_false}
-use Rattle.slot_map.specs.Map.{flags_from, flags_in, free_answer, made_means, made_of, made_answer}
+use Rattle.slot_map.specs.Bits.{bits_of, first_false}
+use Rattle.slot_map.specs.Map.{flags_from, flags_in, free_answer, made_answer}
 use Rattle.slot_map.proofs.BitLaws.{length-bits, first-in, first_past, flags-more, map-none}
 use Rattle.slot_map.proofs.Carry.{length-flags, flag_at}
 
@@ -56,27 +53,6 @@ module _ (x y : ℕ) {a : ℕ} (e : a ≡ first_false (bits_of 64 x)) where
 
 -- ---- the making
 
-other : {X : Type 0} (k : ℕ) (a b : X) → (k ≡ 0 → ⊥) → b ≡ if_zero k a b
-other zero a b d = absurd (d refl)
-other (suc k) a b d = refl
-
-pub made-fine : (w : Why) (m : SlotMap) → w.number ≡ 0 → made.Map m ≡ made_of w m
-unfolding made_of
-made-fine w m z = rw z
-
-pub made-refused : (w : Why) (m : SlotMap) {r : Reason} → (w.number ≡ 0 → ⊥) → r ≡ reason_of w → made.Refused r ≡ made_of w m
-unfolding made_of
-made-refused w m d e = ap made.Refused e ∙ other w.number (made.Map m) (made.Refused (reason_of w)) d
-
--- an answer by its name means what a call judged so answers
-made-means : (w : Why) (m : SlotMap) (fs : List Bool) → Named w → (w.number ≡ 0 → map_of m ≡ fs) → made_means (made_of w m) ≡ judged w fs
-unfolding made_of judged
-made-means w m fs d e = by w.number (reason_of w) d.name e
-  where
-    by : (k : ℕ) (r : Reason) → ((k ≡ 0 → ⊥) → why_at r ≡ w) → (k ≡ 0 → map_of m ≡ fs) → made_means (if_zero k (made.Map m) (made.Refused r)) ≡ if_zero k (accepted fs) (refused w)
-    by zero r f g = ap accepted (g refl)
-    by (suc k) r f g = ap refused (f (λ z. omega arith))
-
 -- the front table as the code lends it
 abbrev pub lent : ℕ → List ℕ → List ℕ
 lent B xs = take (B + (B + 16384) - B) (drop B xs)
@@ -94,17 +70,17 @@ module _ (B : ℕ) (xs : List ℕ) (h : (check B (length xs) (tables B xs)).numb
   pub flags-lent : flags_from (copy_in B Front (lent B xs)).array 0 128 ≡ flags_in B xs
   flags-lent = ap (λ (t : Tables). flags_from t.front.array 0 128) (lent-tables B (length xs) xs room_in refl)
 
-module _ (B : ℕ) (xs : List ℕ) {f : Why} (e : f ≡ check B (length xs) (tables B xs)) (m : SlotMap) {r : MapMade} (q : r ≡ made_of f m) where
-  answered : (f.number ≡ 0 → map_of m ≡ flags_in B xs) → made_means r ≡ made_answer B xs
-  answered g =
-      ap made_means (q ∙ ap (λ (w : Why). made_of w m) e)
-      ∙ made-means (check B (length xs) (tables B xs)) m (flags_in B xs) (named-check B (length xs) (tables B xs)) (λ z. g (number-of e ∙ z))
+module _ (B : ℕ) (xs : List ℕ) {f : Why} (e : f ≡ check B (length xs) (tables B xs)) where
+  pub answer-refused : {r : Reason} → (f.number ≡ 0 → ⊥) → r ≡ reason_of f → refused (why_at r) ≡ made_answer B xs
+  answer-refused {r} d q =
+      let n : (check B (length xs) (tables B xs)).number ≡ 0 → ⊥ = λ z. d (number-of e ∙ z) in
+      ap refused (ap why_at q ∙ ap (λ (w : Why). why_at (reason_of w)) e ∙ (named-check B (length xs) (tables B xs)).name n)
+      ∙ sym (judged-some (flags_in B xs) (check B (length xs) (tables B xs)) n)
 
-  pub answer-refused : (f.number ≡ 0 → ⊥) → made_means r ≡ made_answer B xs
-  answer-refused d = answered (λ z. absurd (d z))
-
-  pub answer-made : f.number ≡ 0 → map_of m ≡ flags_from (copy_in B Front (lent B xs)).array 0 128 → made_means r ≡ made_answer B xs
-  answer-made z g = answered (λ _. g ∙ flags-lent B xs (sym (number-of e) ∙ z))
+  pub answer-made : {fs : List Bool} → f.number ≡ 0 → fs ≡ flags_from (copy_in B Front (lent B xs)).array 0 128 → accepted fs ≡ made_answer B xs
+  answer-made z g =
+      let y : (check B (length xs) (tables B xs)).number ≡ 0 = sym (number-of e) ∙ z in
+      ap accepted (g ∙ flags-lent B xs y) ∙ sym (judged-none (flags_in B xs) (check B (length xs) (tables B xs)) y)
 
 -- the loop: the first k flags are made
 module _ (arr : List ℕ) where

@@ -2,10 +2,9 @@
 ghost use Rattle.std.specs.Prelude.{◌≡◌, true, false, ◌+◌, ◌≤◌, ◌<◌, length, set};
 ghost use Rattle.tables.specs.Lens.{Front, copy_in};
 ghost use Rattle.slot_map.specs.Bits.{bits_of, map_of, first_false, count_true};
-ghost use Rattle.slot_map.specs.Map.{flags_from, made_of};
+ghost use Rattle.slot_map.specs.Map.{flags_from};
 
-use crate::{MapMade, SlotMap};
-use units::why::Why;
+use crate::SlotMap;
 
 // A word with bit k set, and with bit k clear.
 fn word_set(x: u64, k: u64) -> u64
@@ -70,22 +69,9 @@ pub fn map_of(copy: &[u8], b: u64) -> SlotMap
 {
     let array = tables::inner::array_in(b, false);
     let mut m = SlotMap { low: 0, high: 0 };
-    let mut k = 0u32;
-    while k < 128 {
+    for k in 0..128u32 {
         let at = partition::inner::entry_place(array, k as usize);
         m = with_bit(m, k, partition::inner::is_present(copy, at.0));
-        k += 1;
     }
     m
-}
-
-// The answer by its name: a refusal, or the map where nothing refuses.
-pub fn made(found: Why, map: SlotMap) -> MapMade
-    ensures { result ≡ made_of found map }
-{
-    let n = found.number;
-    if n == 0 {
-        return MapMade::Map(map);
-    }
-    MapMade::Refused(found.reason())
 }

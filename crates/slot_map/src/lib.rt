@@ -4,53 +4,39 @@
 
 pub mod inner; // inner.rt: the words, one bit, and the making from a front table
 
-ghost use Rattle.std.specs.Prelude.{◌≡◌, true, false, ◌-◌, ◌<◌};
-ghost use Rattle.units.specs.Answer.{Ends, accepted};
-ghost use Rattle.units.specs.Meanings.{card_means, slot_means};
+ghost use Rattle.std.specs.Prelude.{◌≡◌, true, false};
+ghost use Rattle.units.specs.Answer.{Ends};
+ghost use Rattle.units.specs.Meanings.{card_means, means};
 ghost use Rattle.card.specs.Calls.{put_outcome, clear_outcome};
 ghost use Rattle.history.specs.History.{taken};
 ghost use Rattle.slot_map.specs.Bits.{map_of, count_true};
-ghost use Rattle.slot_map.specs.Map.{free_answer, made_means, made_answer, marked};
+ghost use Rattle.slot_map.specs.Map.{free_answer, made_means, made_answer, marked, verdict, kept};
 
 use partition::Partition;
-use units::{CardVerdict, Reason, Refusal, Slot, SlotFound};
+use units::{Reason, Refusal, Slot};
 
 // A bit for each slot, 1 where it is used: slots 1 to 64 in the low word, least bit first, slots 65 to 128 in the high one.
 #[repr(C)]
-#[derive(Clone, Copy)]
+#[derive(Clone, Copy, Debug, PartialEq, Eq)]
 pub struct SlotMap {
     pub low: u64,
     pub high: u64,
 }
 
-// The map of a card, or why there is none and where.
-#[derive(Clone, Copy)]
-pub enum MapMade {
-    Map(SlotMap),
-    Refused(Reason),
-}
-
-// What a put or a clear answers, and the map after it.
-#[derive(Clone, Copy)]
-pub struct Carried {
-    pub verdict: CardVerdict,
-    pub map: SlotMap,
-}
-
 impl SlotMap {
     // The lowest free slot: 33 (table full) where all 128 are used.
-    pub fn lowest_free(self) -> SlotFound
-        ensures { slot_means result ≡ free_answer (map_of self) }
+    pub fn lowest_free(self) -> Result<Slot, Refusal>
+        ensures { means result ≡ free_answer (map_of self) }
     {
         let a = inner::word_free(self.low);
         if a < 64 {
-            return SlotFound::At(units::inner::slot_at(a));
+            return Ok(units::inner::slot_at(a));
         }
         let b = inner::word_free(self.high);
         if b < 64 {
-            return SlotFound::At(units::inner::slot_at(64 + b));
+            return Ok(units::inner::slot_at(64 + b));
         }
-        SlotFound::Refused(Refusal::TableFull)
+        Err(Refusal::TableFull)
     }
 
     // How many slots are used.
@@ -62,47 +48,37 @@ impl SlotMap {
 }
 
 // The map of a card: the card check's numbers.
-pub fn slot_map(img: &[u8], b: u64) -> MapMade
+pub fn slot_map(img: &[u8], b: u64) -> Result<SlotMap, Reason>
     ensures { made_means result ≡ made_answer b img.now }
 {
-    let t = crc32::inner::table();
-    let found = checking::inner::check_with(&t, img, b);
+    let found = checking::inner::check_with(img, b);
     if found.number != 0 {
-        return inner::made(found, SlotMap { low: 0, high: 0 });
+        return Err(found.reason());
     }
     let size = b as usize;
-    inner::made(found, inner::map_of(&img[size..size + (size + 16384)], b))
+    Ok(inner::map_of(&img[size..size + (size + 16384)], b))
 }
 
-// The map after a call on a slot that comes back with a verdict: with the slot's bit where it is accepted, else as it came.
-fn handed_on(verdict: CardVerdict, map: SlotMap, slot: Slot, yes: bool) -> Carried
-    requires { card_means verdict ≡ accepted tt → slot.0 - 1 < 128 }
-    ensures { (result.verdict ≡ verdict) × (map_of result.map ≡ marked (taken (card_means verdict)) slot.0 yes (map_of map)) }
+// The card's put, and the map with the slot's bit set; a refused one leaves the caller its own map.
+pub fn put(
+    img: &mut [u8],
+    b: u64,
+    slot: Slot,
+    p: Partition,
+    map: SlotMap,
+) -> Result<SlotMap, Reason>
+    ensures ends { Ends (put_outcome b img.old slot.0 p) (card_means (verdict result)) img.new }
+    ensures map_value { map_of (kept map result) ≡ marked (taken (put_outcome b img.old slot.0 p).answer) slot.0 true (map_of map) }
 {
-    match verdict {
-        CardVerdict::Refused(w) => Carried {
-            verdict: CardVerdict::Refused(w),
-            map,
-        },
-        CardVerdict::Accepted => Carried {
-            verdict: CardVerdict::Accepted,
-            map: inner::with_bit(map, units::inner::array_place(slot), yes),
-        },
-    }
+    card::put(img, b, slot, p)?;
+    Ok(inner::with_bit(map, units::inner::array_place(slot), true))
 }
 
-// The card's put, with the slot's bit set where it is accepted; a refused one hands the map back as it came.
-pub fn put(img: &mut [u8], b: u64, slot: Slot, p: Partition, map: SlotMap) -> Carried
-    ensures ends { Ends (put_outcome b img.old slot.0 p) (card_means result.verdict) img.new }
-    ensures map_value { map_of result.map ≡ marked (taken (put_outcome b img.old slot.0 p).answer) slot.0 true (map_of map) }
+// The card's clear, and the map with the slot's bit cleared, likewise.
+pub fn clear(img: &mut [u8], b: u64, slot: Slot, map: SlotMap) -> Result<SlotMap, Reason>
+    ensures ends { Ends (clear_outcome b img.old slot.0) (card_means (verdict result)) img.new }
+    ensures map_value { map_of (kept map result) ≡ marked (taken (clear_outcome b img.old slot.0).answer) slot.0 false (map_of map) }
 {
-    handed_on(card::put(img, b, slot, p), map, slot, true)
-}
-
-// The card's clear, with the slot's bit cleared where it is accepted.
-pub fn clear(img: &mut [u8], b: u64, slot: Slot, map: SlotMap) -> Carried
-    ensures ends { Ends (clear_outcome b img.old slot.0) (card_means result.verdict) img.new }
-    ensures map_value { map_of result.map ≡ marked (taken (clear_outcome b img.old slot.0).answer) slot.0 false (map_of map) }
-{
-    handed_on(card::clear(img, b, slot), map, slot, false)
+    card::clear(img, b, slot)?;
+    Ok(inner::with_bit(map, units::inner::array_place(slot), false))
 }

@@ -8,12 +8,14 @@ use native.Mathlib.Nat.{add-mul, mul-le-mul_right}
 use native.Mathlib.Omega.{arith}
 use borrow.Author.Tests.{lt-ltb, le-ltb, eq-eqb}
 use lib.Dec.{eqb, ltb}
-use lib.ListN.{length, take, drop, get_or, set, take-append-drop}
+use lib.ListN.{length, take, drop, take-append-drop}
 use lib.Seq.{sets, length-take-le}
 use Rattle.units.specs.declared.Guid.{Guid}
 use Rattle.units.specs.Bytes.{part}
 use Rattle.units.proofs.Laws.{good-size}
-use Rattle.units.proofs.Lists.{part_step, part_out, store-more, lent-part, length-lent, sets-left, sets-right}
+use Rattle.std.specs.List.{copy_within}
+use Rattle.std.proofs.lemmas.List.Edits.{sets-eq}
+use Rattle.units.proofs.Lists.{length_part, lent-part, length-lent, sets-left, sets-right}
 use Rattle.tables.specs.Places.{array_blocks}
 use Rattle.tables.specs.Lens.{Side, Front, Back, Tables, side_of, other, header_in, array_in, copy_in, copy_at, tables}
 use Rattle.tables.specs.Entries.{zeros}
@@ -56,11 +58,6 @@ module _ (B n : ℕ) (r : Room B n) where
   pub array-from : (s : Side) (x : ℕ) → copy_place B n s + (array_in B s + x) ≡ array_byte_place B n s + x
   array-from Front x = omega arith
   array-from Back x = omega arith
-
-  -- a block of one array does not reach into the other array
-  pub arrays-apart : (s : Side) (j : ℕ) → j * B + B ≤ 16384 → (array_byte_place B n (other s) + j * B + B ≤ array_byte_place B n s + j * B) ⊎ (array_byte_place B n s + j * B + B ≤ array_byte_place B n (other s) + j * B)
-  arrays-apart Front j h = inr (omega (arith, r.low))
-  arrays-apart Back j h = inl (omega (arith, r.low))
 
   pub array-inside : (s : Side) → array_byte_place B n s + 16384 ≤ n
   array-inside Front = omega (arith, r.low, r.seam, r.top)
@@ -142,10 +139,6 @@ block_inside B n j r h =
     omega arith
 
 module _ (B n : ℕ) (b : Bool) (j : ℕ) {from to : ℕ} where
-  pub block_apart : Room B n → j * B + B ≤ 16384 → from ≡ array_byte_place B n (side_of (not b)) → to ≡ array_byte_place B n (side_of b)
-      → (from + j * B + B ≤ to + j * B) ⊎ (to + j * B + B ≤ from + j * B)
-  block_apart r h p q = rw (p, q, other-side b) (arrays-apart B n r (side_of b) j h)
-
   pub block-is : (xs : List ℕ) → from ≡ array_byte_place B n (side_of (not b)) → to ≡ array_byte_place B n (side_of b) → sets xs (to + j * B) (part xs (from + j * B) B) ≡ block_store B n (side_of b) j xs
   unfolding block_store
   block-is xs p q = rw (p, q, other-side b)
@@ -170,20 +163,11 @@ module _ (r : Repair) (k : ℕ) (xs : List ℕ) {ys : List ℕ} (l : length xs �
       let q : repair_store r.b r.len r (suc (suc (k - 2))) xs ≡ header_store r.b r.len (other (side_of r.back)) r.guid r.parts xs = rw (z, w) in
       e ∙ (rw (l, other-side r.back)) ∙ sym q ∙ ap (λ (i : ℕ). repair_store r.b r.len r i xs) (sym (from-two k a))
 
--- ---- one byte of a copy inside a list
+-- ---- a copy inside a list
 
-beside : (from to i n : ℕ) → i < n → (from + n ≤ to) ⊎ (to + n ≤ from) → (from + (i + 1) + (n - (i + 1)) ≤ to + i) ⊎ (to + i + 1 ≤ from + (i + 1))
-beside from to i n h (inl o) = inl (omega arith)
-beside from to i n h (inr o) = inr (omega arith)
-
--- what is left to copy is not what was stored
-pub within_more : (s : List ℕ) (from to i n : ℕ) → i < n → from + n ≤ length s → (from + n ≤ to) ⊎ (to + n ≤ from)
-    → sets (set s (to + i) (get_or s (from + i) 0)) (to + (i + 1)) (part (set s (to + i) (get_or s (from + i) 0)) (from + (i + 1)) (n - (i + 1)))
-    ≡ sets s (to + i) (part s (from + i) (n - i))
-within_more s from to i n h l o =
-    let v : ℕ = get_or s (from + i) 0 in
-    let p : part (set s (to + i) (get_or s (from + i) 0)) (from + (i + 1)) (n - (i + 1)) ≡ part s (from + (i + 1)) (n - (i + 1)) =
-    part_out s (to + i) (get_or s (from + i) 0 ∷ []) (from + (i + 1)) (n - (i + 1)) (beside from to i n h o) in
-    ap (λ (y : List ℕ). sets (set s (to + i) v) (to + (i + 1)) y) p
-    ∙ store-more s to i v (part s (from + (i + 1)) (n - (i + 1)))
-    ∙ ap (λ (y : List ℕ). sets s (to + i) y) (sym (part_step s from i n h l))
+pub copied : (s : List ℕ) (from to n : ℕ) → from + n ≤ length s → to + n ≤ length s → copy_within s from (from + n) to ≡ sets s to (part s from n)
+copied s from to n h k =
+    let e : from + n - from ≡ n = omega arith in
+    let l : length (part s from n) ≡ n = length_part s from n h in
+    let f : to + length (part s from n) ≤ length s = omega arith in
+    rw (e, sets-eq (part s from n) s to f, l)

@@ -7,13 +7,12 @@ use native.Mathlib.Omega.{arith}
 use borrow.Author.Tests.{ne_eqb, eq-eqb, eqb-true}
 use lib.Dec.{eqb, leb}
 use Rattle.units.specs.declared.why.Why.{Why}
-use Rattle.units.specs.declared.CardVerdict.TheVariants as verdict
+use Rattle.units.specs.declared.Reason.{Reason}
 use Rattle.units.specs.declared.Refusal.TheVariants.{BadBlockSize, WrongStage}
-use Rattle.units.specs.Answer.{Answer, accepted, refused, plain, pick, when, or_else, settle, gives, Ends, ends, Beside, beside}
-use Rattle.units.specs.Meanings.{card_means, verdict_of}
+use Rattle.units.specs.Answer.{Answer, accepted, refused, plain, pick, when, or_else, settle, gives, Ends, ends}
 use Rattle.units.specs.Places.{good_size}
 use Rattle.units.specs.Refusals.{why_at, reason_of}
-use Rattle.units.proofs.Chains.{number-of, else-second, Bare, bare-when, bare-else, Named, named-is, named-when, named-else, verdict-judged, settle-accepted, settle-refused, judged-some}
+use Rattle.units.proofs.Chains.{number-of, else-second, Bare, bare-when, bare-else, Named, named-is, named-when, named-else, settle-accepted, settle-refused}
 use Rattle.units.specs.declared.Slot.{Slot}
 use Rattle.units.specs.declared.Guid.{Guid}
 use Rattle.units.specs.Guids.{guid_at}
@@ -26,44 +25,23 @@ use Rattle.tables.proofs.Orders.{and_left}
 use Rattle.reader.specs.Reader.{passes, reader_check, takes_back}
 use Rattle.staged.specs.declared.Update.{Update}
 use Rattle.staged.specs.declared.Repair.{Repair}
-use Rattle.staged.specs.declared.RepairStep.TheVariants as repair
 use Rattle.staged.specs.Stages.{fixed}
 use Rattle.staged.specs.Repairs.{repair_from, repair_of}
 use Rattle.staged.specs.Stores.{stage_store, zero_store, repair_store}
 use Rattle.staged.specs.Numbers.{leads, next_check, leads_repair, next_repair_check}
-use Rattle.staged.specs.Meanings.{update_means, zero_update, beside_zero, repair_means}
 use Rattle.staged.proofs.Places.{other-side}
 
--- ---- the ends of an update's stage
+-- ---- the ends of a stage
 
-module _ (w : Why) (k : Named w) {f : Why} (e : f ≡ w) (v : Update) (old new : List ℕ) where
-  pub step-refused : (f.number ≡ 0 → ⊥) → Ends (beside_zero (settle w v old new)) (update_means (record { verdict = verdict_of f; state = zero_update })) old
-  unfolding beside
-  step-refused d =
+module _ {A : Type 0} (w : Why) (k : Named w) {f : Why} (e : f ≡ w) (v : A) (old new : List ℕ) where
+  pub step-refused : {r : Reason} → (f.number ≡ 0 → ⊥) → r ≡ reason_of f → Ends (settle w v old new) (refused (why_at r)) old
+  step-refused {r} d p =
       let n : w.number ≡ 0 → ⊥ = λ z. d (number-of e ∙ z) in
-      let o : settle w v old new ≡ gives (refused w) old = settle-refused {A = Update} v w old new n in
-      let q : card_means (verdict_of f) ≡ refused w = ap (λ (x : Why). card_means (verdict_of x)) e ∙ verdict-judged w k ∙ judged-some tt w n in
-      ends (ap beside_zero o ∙ ap (λ (a : Answer Unit). gives {A = Beside Update} (record { verdict = a; value = zero_update }) old) (sym q))
+      let q : why_at r ≡ w = ap why_at p ∙ ap (λ (x : Why). why_at (reason_of x)) e ∙ k.name n in
+      ends (settle-refused {A = A} v w old new n ∙ ap (λ (x : Why). gives {A = Answer A} (refused x) old) (sym q))
 
-  pub step-accepted : {u : Update} {i : List ℕ} → f.number ≡ 0 → u ≡ v → i ≡ new → Ends (beside_zero (settle w v old new)) (update_means (record { verdict = verdict.Accepted; state = u })) i
-  unfolding beside
-  step-accepted {u} {i} z p q =
-      let o : settle w v old new ≡ gives (accepted v) new = settle-accepted {A = Update} v w old new (sym (number-of e) ∙ z) in
-      ends (ap beside_zero o ∙ (rw (p, q)))
-
--- ---- the ends of a repair's stage, whose refusals name nothing
-
-module _ (w : Why) (k : Named w) (b : Bare w) {f : ℕ} (e : f ≡ w.number) (v : Repair) (old new : List ℕ) where
-  pub mend-refused : (f ≡ 0 → ⊥) → Ends (settle w v old new) (repair_means (repair.Refused (reason_of (plain f)))) old
-  mend-refused d =
-      let n : w.number ≡ 0 → ⊥ = λ z. d (e ∙ z) in
-      let o : settle w v old new ≡ gives (refused w) old = settle-refused {A = Repair} v w old new n in
-      let p : plain f ≡ w = ap plain e ∙ sym b.bare in
-      let q : why_at (reason_of (plain f)) ≡ w = ap (λ (x : Why). why_at (reason_of x)) p ∙ k.name n in
-      ends (o ∙ ap (λ (x : Why). gives {A = Answer Repair} (refused x) old) (sym q))
-
-  pub mend-accepted : {u : Repair} {i : List ℕ} → f ≡ 0 → u ≡ v → i ≡ new → Ends (settle w v old new) (repair_means (repair.Next u)) i
-  mend-accepted {u} {i} z p q = ends (settle-accepted {A = Repair} v w old new (sym e ∙ z) ∙ (rw (p, q)))
+  pub step-accepted : {u : A} {i : List ℕ} → f.number ≡ 0 → u ≡ v → i ≡ new → Ends (settle w v old new) (accepted u) i
+  step-accepted {u} {i} z p q = ends (settle-accepted {A = A} v w old new (sym (number-of e) ∙ z) ∙ rw (p, q))
 
 -- ---- the test of a later stage: 1, then 26
 

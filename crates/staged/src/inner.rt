@@ -1,25 +1,21 @@
 // Leaves for our own crates: each `requires` is what its caller has tested. No public calls.
 // `copy` is one table's own b + 16,384 bytes, as in `tables::inner`. An update or a repair goes by value, with all that its stores need but the blocks that a repair copies.
-ghost use Rattle.std.specs.Prelude.{◌≡◌, ◌⊎◌, false, ◌+◌, ◌*◌, ◌≤◌, ◌<◌, length};
+ghost use Rattle.std.specs.Prelude.{◌≡◌, false, ◌+◌, ◌*◌, ◌≤◌, ◌<◌, length};
 ghost use Rattle.std.proofs.lemmas.List.Edits.{sets};
 ghost use Rattle.units.specs.Answer.{plain};
 ghost use Rattle.units.specs.Bytes.{part};
-ghost use Rattle.units.specs.Meanings.{verdict_of};
-ghost use Rattle.units.specs.Refusals.{reason_of};
-ghost use Rattle.crc32.specs.Rows.{Rows};
 ghost use Rattle.tables.specs.Places.{array_blocks};
 ghost use Rattle.tables.specs.Lens.{Front, side_of, copy_in, copy_at, Tables, tables};
 ghost use Rattle.tables.specs.Entries.{zeros};
 ghost use Rattle.tables.specs.Check.{room_check, table_check, bad_slot, check};
-ghost use Rattle.staged.specs.declared.RepairStep.TheVariants as repair;
-ghost use Rattle.staged.specs.Meanings.{zero_update};
 ghost use Rattle.staged.specs.Stages.{fixed};
 ghost use Rattle.staged.specs.Repairs.{repair_from};
 ghost use Rattle.staged.specs.Stores.{copy_place, store_in, store_bytes, stage_store, header_store, zero_store, block_store, repair_store};
 ghost use Rattle.staged.specs.Numbers.{leads, next_check, leads_repair, next_repair_check, onward, onward_repair};
 ghost use Rattle.tables.specs.Lens.{header_in};
 
-use crate::{Repair, RepairStep, Update, UpdateStep};
+use crate::{Repair, Update};
+use units::inner::Field;
 use units::why::Why;
 use units::{BytePlace, Guid, Place, Slot, why};
 
@@ -38,22 +34,14 @@ pub fn copy_place(len: usize, b: u64, back: bool) -> BytePlace
 }
 
 // What stage one of an update fixes, for a card that the check accepts and a slot's new bytes. `s` is an image or whatever begins like one.
-pub fn fix<'a>(
-    t: &'a [u32; 4096],
-    s: &'a [u8],
-    len: usize,
-    b: u64,
-    slot: Slot,
-    e: [u8; 128],
-) -> Update
-    requires rows { Rows 16 t.now }
+pub fn fix(s: &[u8], len: usize, b: u64, slot: Slot, e: [u8; 128]) -> Update
     requires len_value { ((room_check b len).number ≡ 0) × (b + (b + 16384) ≤ length s.now) }
     requires b_value { (table_check b len Front (copy_in b Front (part s.now b (b + 16384)))).number ≡ 0 }
     requires slot_value { bad_slot slot.0 ≡ false }
     ensures { (f : Tables) → copy_in b Front (part s.now b (b + 16384)) ≡ f.front → result ≡ fixed b len f slot.0 e }
 {
     let guid = card::changing::front_guid(s, b);
-    let parts = card::changing::front_sum(t, s, len, b, slot, &e);
+    let parts = card::changing::front_sum(s, len, b, slot, &e);
     Update {
         next: 2,
         slot,
@@ -66,13 +54,12 @@ pub fn fix<'a>(
 }
 
 // One store of an update in the copy of a side: the header's block, or the slot's bytes.
-pub fn store_copy(t: &[u32; 4096], copy: &mut [u8], u: Update, back: bool, header: bool)
-    requires rows { Rows 16 t.now }
-    requires len_value { ((room_check u.b u.len).number ≡ 0) × (bad_slot u.slot.0 ≡ false) × (length copy.old ≡ u.b + 16384) }
+pub fn store_copy(copy: &mut [u8], u: Update, back: bool, header: bool)
+    requires { ((room_check u.b u.len).number ≡ 0) × (bad_slot u.slot.0 ≡ false) × (length copy.old ≡ u.b + 16384) }
     ensures { copy.new ≡ sets copy.old (store_in u.b (side_of back) u header) (store_bytes u.b u.len (side_of back) u header) }
 {
     if header {
-        tables::inner::put_header(t, copy, u.len, u.b, back, u.guid, u.parts);
+        tables::inner::put_header(copy, u.len, u.b, back, u.guid, u.parts);
         return;
     }
     let e = u.entry;
@@ -80,8 +67,7 @@ pub fn store_copy(t: &[u32; 4096], copy: &mut [u8], u: Update, back: bool, heade
 }
 
 // Stage k of an update, 1 to 4, in the image that it began on: the back table at 1 and 2, the slot's bytes at 1 and 3.
-pub fn store_stage(t: &[u32; 4096], img: &mut [u8], u: Update, k: u32)
-    requires rows { Rows 16 t.now }
+pub fn store_stage(img: &mut [u8], u: Update, k: u32)
     requires len_value { ((room_check u.b u.len).number ≡ 0) × (bad_slot u.slot.0 ≡ false) × (length img.old ≡ u.len) }
     requires le_k { (1 ≤ k) × (k ≤ 4) }
     ensures { img.new ≡ stage_store u.b u.len u k img.old }
@@ -91,18 +77,17 @@ pub fn store_stage(t: &[u32; 4096], img: &mut [u8], u: Update, k: u32)
     let place = copy_place(u.len, u.b, back);
     let at = place.0;
     let size = u.b as usize;
-    store_copy(t, &mut img[at..at + (size + 16384)], u, back, header);
+    store_copy(&mut img[at..at + (size + 16384)], u, back, header);
 }
 
 // Stage one of an update, once the check has accepted the image and the slot: what it fixes, and its store.
-pub fn begin(t: &[u32; 4096], img: &mut [u8], b: u64, slot: Slot, e: [u8; 128]) -> Update
-    requires rows { Rows 16 t.now }
-    requires img_value { ((check b (length img.old) (tables b img.old)).number ≡ 0) × (bad_slot slot.0 ≡ false) }
+pub fn begin(img: &mut [u8], b: u64, slot: Slot, e: [u8; 128]) -> Update
+    requires { ((check b (length img.old) (tables b img.old)).number ≡ 0) × (bad_slot slot.0 ≡ false) }
     ensures value { result ≡ fixed b (length img.old) (tables b img.old) slot.0 e }
     ensures img_after { img.new ≡ stage_store b (length img.old) result 1 img.old }
 {
-    let u = fix(t, img, img.len(), b, slot, e);
-    store_stage(t, img, u, 1);
+    let u = fix(img, img.len(), b, slot, e);
+    store_stage(img, u, 1);
     u
 }
 
@@ -138,7 +123,7 @@ pub fn repair_by(copy: &[u8], len: usize, b: u64, back: bool) -> Repair
 {
     let guid = card::changing::kept_guid(copy, b, back);
     let at = tables::inner::header_in(back);
-    let parts = units::inner::u32_at(copy, at.0 + 88);
+    let parts = u32::get(copy, at.0 + 88);
     Repair {
         next: 2,
         back,
@@ -182,19 +167,6 @@ pub fn store_zeros(img: &mut [u8], b: u64, back: bool)
     zero_header(&mut img[at..at + (size + 16384)], b, back);
 }
 
-// Copies n bytes of an image to another place of it; the two do not overlap.
-fn copy_within(img: &mut [u8], from: usize, to: usize, n: usize)
-    requires n_in_bounds { (from + n ≤ length img.old) × (to + n ≤ length img.old) }
-    requires fact { (from + n ≤ to) ⊎ (to + n ≤ from) }
-    ensures { img.new ≡ sets img.old to (part img.old from n) }
-{
-    let mut i = 0;
-    while i < n {
-        img[to + i] = img[from + i];
-        i += 1;
-    }
-}
-
 // Block j of a side's array, as the other side's has it.
 fn store_block(img: &mut [u8], b: u64, back: bool, j: u64)
     requires { ((room_check b (length img.old)).number ≡ 0) × (j < array_blocks b) }
@@ -204,33 +176,24 @@ fn store_block(img: &mut [u8], b: u64, back: bool, j: u64)
     let from = reader::inner::array_byte_place(len, b, !back);
     let to = reader::inner::array_byte_place(len, b, back);
     let skip = (j * b) as usize;
-    copy_within(img, from.0 + skip, to.0 + skip, b as usize);
+    let start = from.0 + skip;
+    img.copy_within(start..start + b as usize, to.0 + skip);
 }
 
 // The header's block of a side, as lay would write it for a GUID and an array's sum.
-fn store_header(t: &[u32; 4096], img: &mut [u8], b: u64, back: bool, guid: Guid, parts: u32)
-    requires rows { Rows 16 t.now }
-    requires img_value { (room_check b (length img.old)).number ≡ 0 }
+fn store_header(img: &mut [u8], b: u64, back: bool, guid: Guid, parts: u32)
+    requires { (room_check b (length img.old)).number ≡ 0 }
     ensures { img.new ≡ header_store b (length img.old) (side_of back) guid parts img.old }
 {
     let len = img.len();
     let place = copy_place(len, b, back);
     let at = place.0;
     let size = b as usize;
-    tables::inner::put_header(
-        t,
-        &mut img[at..at + (size + 16384)],
-        len,
-        b,
-        back,
-        guid,
-        parts,
-    );
+    tables::inner::put_header(&mut img[at..at + (size + 16384)], len, b, back, guid, parts);
 }
 
 // Stage k of a repair, from 2 on, in the image that it began on: a block of the array, or the header at the last stage.
-pub fn store_repair(t: &[u32; 4096], img: &mut [u8], r: Repair, k: u32)
-    requires rows { Rows 16 t.now }
+pub fn store_repair(img: &mut [u8], r: Repair, k: u32)
     requires len_value { ((room_check r.b r.len).number ≡ 0) × (length img.old ≡ r.len) }
     requires le_k { (2 ≤ k) × (k ≤ array_blocks r.b + 2) }
     ensures { img.new ≡ repair_store r.b r.len r k img.old }
@@ -241,7 +204,7 @@ pub fn store_repair(t: &[u32; 4096], img: &mut [u8], r: Repair, k: u32)
         store_block(img, r.b, back, j);
         return;
     }
-    store_header(t, img, r.b, back, r.guid, r.parts);
+    store_header(img, r.b, back, r.guid, r.parts);
 }
 
 // Whether a state leads to stage k of a repair of an image of len bytes.
@@ -305,26 +268,6 @@ pub fn onward_repair(r: Repair) -> Repair
     }
 }
 
-// The answer of a refused stage of an update.
-pub fn refused(found: Why) -> UpdateStep
-    ensures { result ≡ record { verdict = verdict_of found; state = zero_update } }
-{
-    let guid = Guid::nil();
-    let state = Update {
-        next: 0,
-        slot: Slot(0),
-        b: 0,
-        len: 0,
-        entry: [0; 128],
-        guid,
-        parts: 0,
-    };
-    UpdateStep {
-        verdict: found.verdict(),
-        state,
-    }
-}
-
 // A refusal by a number that names nothing.
 pub fn by_number(number: u32) -> Why
     ensures { result ≡ plain number }
@@ -334,12 +277,4 @@ pub fn by_number(number: u32) -> Why
         slot: Slot(0),
         place: Place::Nowhere,
     }
-}
-
-// The answer of a refused stage of a repair, by a number that names nothing.
-pub fn repair_refused(number: u32) -> RepairStep
-    ensures { result ≡ repair.Refused (reason_of (plain number)) }
-{
-    let found = by_number(number);
-    RepairStep::Refused(found.reason())
 }

@@ -3,7 +3,6 @@
 ghost use Rattle.std.specs.Prelude.{◌≡◌, false, ◌+◌, ◌*◌, ◌-◌, ◌≤◌, ◌<◌, length};
 ghost use Rattle.std.proofs.lemmas.List.Edits.{sets};
 ghost use Rattle.crc32.specs.Crc.{crc};
-ghost use Rattle.crc32.specs.Rows.{Rows};
 ghost use Rattle.tables.specs.Places.{blocks, first_usable_of, last_usable_of, back_array};
 ghost use Rattle.tables.specs.Lens.{side_of, header_in, array_in, copy_in};
 ghost use Rattle.tables.specs.Headers.{own_block, other_block, array_start, card_header, head_block};
@@ -126,14 +125,13 @@ pub fn slot_in(b: u64, back: bool, slot: Slot) -> BytePlace
 }
 
 // The check sum of a copy's array.
-pub fn array_sum<'a>(t: &'a [u32; 4096], copy: &'a [u8], b: u64, back: bool) -> u32
-    requires rows { Rows 16 t.now }
-    requires copy_len { length copy.now ≡ b + 16384 }
+pub fn array_sum(copy: &[u8], b: u64, back: bool) -> u32
+    requires { length copy.now ≡ b + 16384 }
     ensures { result ≡ crc (copy_in b (side_of back) copy.now).array }
 {
     let array = array_in(b, back);
     let at = array.0;
-    crc32::inner::sum(t, crc32::FRESH, &copy[at..at + 16384])
+    crc32::inner::sum(crc32::FRESH, &copy[at..at + 16384])
 }
 
 // The header of a card on one side, before it has its sums.
@@ -169,22 +167,13 @@ pub fn put_slot(copy: &mut [u8], b: u64, back: bool, slot: Slot, e: &[u8])
 }
 
 // Stores the header's block of a copy as lay would, for a GUID and the array's sum.
-pub fn put_header(
-    t: &[u32; 4096],
-    copy: &mut [u8],
-    len: usize,
-    b: u64,
-    back: bool,
-    guid: Guid,
-    parts: u32,
-)
-    requires rows { Rows 16 t.now }
-    requires len_value { ((room_check b len).number ≡ 0) × (length copy.old ≡ b + 16384) }
+pub fn put_header(copy: &mut [u8], len: usize, b: u64, back: bool, guid: Guid, parts: u32)
+    requires { ((room_check b len).number ≡ 0) × (length copy.old ≡ b + 16384) }
     ensures { copy.new ≡ sets copy.old (header_in (side_of back)) (head_block b len (side_of back) guid parts) }
 {
     let size = b as usize;
     let plain = card_header(len, b, back, guid);
-    let h = header::inner::with_sums(t, plain, parts);
+    let h = header::inner::with_sums(plain, parts);
     let at = header_in(back);
     header::inner::put_block(copy, at.0, size, h);
 }

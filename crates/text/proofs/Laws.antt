@@ -1,13 +1,15 @@
 -- Both ways out of handing over a text, digits that are stored one by one, and numbers in a range. Assumes nothing.
-use mathlib.Core.Path.{◌≡◌, refl, ◌∙◌}
+use mathlib.Core.Path.{◌≡◌, refl, sym, ◌∙◌}
 use mathlib.Core.Bool.{true, false}
-use mathlib.Core.List.{List, [], ◌∷◌}
+use mathlib.Core.List.{List, [], ◌∷◌, ◌++◌}
 use mathlib.Core.Logic.{inr}
 use Prim.Native.Nat.{ℕ, zero, suc, ◌+◌, ◌-◌, ◌/◌, ◌%◌, ◌≤◌, ◌<◌}
 use native.Mathlib.Omega.{arith}
 use lib.Dec.{leb}
 use borrow.Author.Tests.{lt-ltb, le-ltb, le-leb, lt-leb, leb-true}
-use lib.ListN.{length, set, length-append}
+use native.Mathlib.Nat.{zero-add}
+use lib.ListN.{length, set, drop, length-append}
+use Rattle.std.proofs.lemmas.List.Edits.{sets-eq}
 use lib.Seq.{sets}
 use Rattle.units.specs.Answer.{accepted, refuse, Ends, ends}
 use Rattle.units.proofs.Laws.{and_both}
@@ -20,9 +22,14 @@ pub text-short : (out words : List ℕ) → length out ≤ length words → Ends
 unfolding text_stored
 text-short out words h = ends (rw (le-ltb _ _ h))
 
-pub text-stored : (out words s : List ℕ) → length words < length out → s ≡ sets out 0 words → Ends (text_stored out words) (accepted (length words)) (set s (length words) 0)
+-- a text copied over the first bytes
+pub put_first : (out words : List ℕ) → length words ≤ length out → words ++ drop (length words) out ≡ sets out 0 words
+put_first out words h = sym (simp zero-add at (sets-eq {A = ℕ} words out 0 (omega arith)))
+
+pub text-stored : (out words : List ℕ) → length words < length out → Ends (text_stored out words) (accepted (length words)) (set (words ++ drop (length words) out) (length words) 0)
 unfolding text_stored
-text-stored out words s h e = ends (rw (lt-ltb _ _ h, and_then out 0 words (length words) (0 ∷ []) (omega arith) e refl))
+text-stored out words h =
+    ends (rw (lt-ltb _ _ h, and_then out 0 words (length words) (0 ∷ []) (omega arith) (put_first out words (omega arith)) refl))
 
 pub length_digits : (base n x : ℕ) → length (digits base n x) ≡ n
 unfolding digits

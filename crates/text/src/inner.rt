@@ -5,6 +5,7 @@ ghost use Rattle.text.specs.Digits.{digit_of, digits};
 ghost use Rattle.text.specs.Ranges.{between};
 
 // Whether a number lies from the first to the last of a range.
+#[tactic(auto, using(units::proofs::Laws::tests), unfolding(crate::specs::Ranges::between))]
 pub fn is_between(first: u32, x: u32, last: u32) -> bool
     ensures { result ≡ between first x last }
 {
@@ -12,14 +13,12 @@ pub fn is_between(first: u32, x: u32, last: u32) -> bool
 }
 
 // The digit of a value below 16.
+#[tactic(auto, using(units::proofs::Laws::tests), unfolding(crate::specs::Digits::digit_of))]
 fn digit_of(v: u8) -> u8
     requires { v < 16 }
     ensures { result ≡ digit_of v }
 {
-    if v < 10 {
-        return 48 + v;
-    }
-    87 + v
+    if v < 10 { b'0' + v } else { b'a' + (v - 10) }
 }
 
 // The n low digits of x in a base, the highest first, stored at place at.
@@ -28,9 +27,7 @@ pub fn put_digits(s: &mut [u8], at: usize, base: u64, n: usize, x: u64)
     ensures { s.new ≡ sets s.old at (digits base n x) }
 {
     let mut v = x;
-    let mut i = n;
-    while 0 < i {
-        i -= 1;
+    for i in (0..n).rev() {
         s[at + i] = digit_of((v % base) as u8);
         v /= base;
     }

@@ -3,7 +3,7 @@
 
 ghost use Rattle.std.specs.Prelude.{◌≡◌};
 ghost use Rattle.units.specs.Answer.{Ends};
-ghost use Rattle.units.specs.Meanings.{stored_means};
+ghost use Rattle.units.specs.Meanings.{means};
 ghost use Rattle.text.specs.Texts.{text_stored};
 ghost use Rattle.guid_text.specs.GuidTexts.{text_of_guid, guid_of_text};
 ghost use Rattle.message.specs.Words.{message_text};
@@ -13,11 +13,11 @@ ghost use Rattle.text_c.specs.Exports.{version, text_to_c};
 
 use guid_text::GuidOfText;
 use names::NameOfText;
-use units::{Guid, Stored};
+use units::{Guid, Refusal};
 
 // The version of the library.
 #[repr(C)]
-#[derive(Clone, Copy)]
+#[derive(Clone, Copy, Debug, PartialEq, Eq)]
 pub struct CardVersion {
     pub major: u32,
     pub minor: u32,
@@ -26,25 +26,24 @@ pub struct CardVersion {
 
 // The number first, 0 for accepted, and the length of the text that was stored, without the zero behind it.
 #[repr(C)]
-#[derive(Clone, Copy)]
+#[derive(Clone, Copy, Debug, PartialEq, Eq)]
 pub struct CardText {
     pub number: u32,
     pub length: usize,
 }
 
-#[tactic(auto, unfolding(answers_c::specs::Crossing::crossed))]
-fn text_to_c(r: Stored) -> CardText
-    ensures { result ≡ text_to_c (stored_means r) }
-{
-    match r {
-        Stored::Bytes(n) => CardText {
-            number: 0,
-            length: n,
-        },
-        Stored::Refused(w) => CardText {
-            number: w.number(),
-            length: 0,
-        },
+impl From<Result<usize, Refusal>> for CardText {
+    ghost from_gives = { λ r a. a ≡ text_to_c (means r) };
+
+    #[tactic(auto, unfolding(answers_c::specs::Crossing::crossed))]
+    fn from(r: Result<usize, Refusal>) -> CardText {
+        match r {
+            Ok(length) => CardText { number: 0, length },
+            Err(w) => CardText {
+                number: w.number(),
+                length: 0,
+            },
+        }
     }
 }
 
@@ -65,7 +64,7 @@ pub extern "C" fn card_version() -> CardVersion
 pub extern "C" fn card_message(out: &mut [u8], number: u32, place: u32, slot: u32) -> CardText
     ensures { Ends (outcome_to_c text_to_c (text_stored out.old (message_text number place slot))) result out.new }
 {
-    text_to_c(message::message(out, number, place, slot))
+    message::message(out, number, place, slot).into()
 }
 
 // The text of a GUID and a zero behind it: 2.
@@ -73,7 +72,7 @@ pub extern "C" fn card_message(out: &mut [u8], number: u32, place: u32, slot: u3
 pub extern "C" fn gpt_guid_to_text(out: &mut [u8], guid: Guid) -> CardText
     ensures { Ends (outcome_to_c text_to_c (text_stored out.old (text_of_guid guid))) result out.new }
 {
-    text_to_c(guid_text::guid_to_text(out, guid))
+    guid_text::guid_to_text(out, guid).into()
 }
 
 // The GUID of a text: 39.
@@ -89,7 +88,7 @@ pub extern "C" fn gpt_guid_from_text(text: &[u8]) -> GuidOfText
 pub extern "C" fn gpt_name_to_utf8(out: &mut [u8], name: &[u16]) -> CardText
     ensures { Ends (outcome_to_c text_to_c (text_stored out.old (name_text name.now))) result out.new }
 {
-    text_to_c(names::name_to_utf8(out, name))
+    names::name_to_utf8(out, name).into()
 }
 
 // The name of a text in UTF-8: 39, 40.

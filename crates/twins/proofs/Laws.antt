@@ -2,7 +2,7 @@
 use mathlib.Core.Path.{◌≡◌, refl, sym, ap, ap₂, ◌∙◌, subst}
 use mathlib.Core.Bool.{Bool, true, false, not, ◌&&◌}
 use mathlib.Core.List.{List}
-use Prim.Native.Nat.{ℕ, ◌+◌, ◌*◌, ◌/◌, ◌%◌, ◌^◌, ◌≤◌, ◌<◌, max}
+use Prim.Native.Nat.{ℕ, ◌+◌, ◌*◌, ◌/◌, ◌%◌, ◌^◌, ◌<◌, max}
 use native.Mathlib.Nat.{one-mul, mul-div_cancel}
 use native.Mathlib.Omega.{arith}
 use borrow.Author.Tests.{eq-eqb, eqb-true, eqb-false, not-true, not-false}
@@ -15,9 +15,9 @@ use Rattle.units.specs.Answer.{pick}
 use Rattle.units.specs.Bytes.{part, num, same, all_zero}
 use Rattle.units.proofs.Lists.{part-part}
 use Rattle.units.proofs.Laws.{num-part, same_true}
-use Rattle.tables.specs.Checks.{all, lowest}
+use Rattle.tables.specs.Checks.{all}
 use Rattle.tables.specs.Entries.{entry, used, part_guid_of, bears, twins, all_single}
-use Rattle.tables.proofs.Orders.{split, by-pick, by-test, all_of, triangle, lowest-none, lowest-is}
+use Rattle.tables.proofs.Orders.{split, by-test, all_of, triangle}
 use Rattle.tables.proofs.EntryLaws.{entry_at, used-part, twins-comm}
 use Rattle.twins.specs.Marks.{folded, mark, marked, with_mark, fresh, entered, Marked}
 
@@ -163,31 +163,3 @@ pub own-twins : (arr : List ℕ) (k : ℕ) (g : List ℕ) → used (entry arr k)
     → all k (λ (j : ℕ). not (bears g (entry arr j))) ≡ all k (λ (j : ℕ). not (twins (entry arr k) (entry arr j)))
 unfolding twins
 own-twins arr k g u q = rw (q, u)
-
--- ---- the lowest twin, from the last entry to the first
-
--- r is the lowest place from j on that passes, or 128
-pub record LowestFrom (f : ℕ → Bool) (j r : ℕ) : Type 0 where
-  pub most : r ≤ 128
-  pub below : (i : ℕ) → j ≤ i → i < r → f i ≡ false
-  pub passes : r < 128 → f r ≡ true
-
-pub from_end : (f : ℕ → Bool) → LowestFrom f 128 128
-from_end f = record { most = omega arith; below = λ i p q. absurd (omega arith); passes = λ q. absurd (omega arith) }
-
-pub from_more : (f : ℕ → Bool) (i j r : ℕ) {q : ℕ} → i ≡ j + 1 → i ≤ 128 → LowestFrom f i r → q ≡ pick (f j) j r → LowestFrom f j q
-from_more f i j r e h w p =
-    subst (LowestFrom f j) (sym p)
-    (by-pick (LowestFrom f j) (f j) j r
-    (λ t. record { most = omega arith; below = λ x a b. absurd (omega arith); passes = λ _. t })
-    (λ t. record {
-      most = w.most;
-      below = λ x a b. split i x (λ o. w.below x o b) (λ o. let z : j ≡ x = omega arith in subst (λ (y : ℕ). f y ≡ false) z t);
-      passes = w.passes;
-    }))
-
-pub from_start : (f : ℕ → Bool) (r : ℕ) → LowestFrom f 0 r → r ≡ lowest 128 f
-from_start f r w =
-    split 128 r
-    (λ o. let e : r ≡ 128 = omega (arith, w.most) in e ∙ sym (lowest-none 128 f (λ i q. w.below i (omega arith) (omega arith))))
-    (λ o. lowest-is 128 f r o (λ i q. w.below i (omega arith) q) (w.passes o))

@@ -5,12 +5,11 @@ use mathlib.Core.List.{List, [], ◌∷◌}
 use Prim.Native.Nat.{ℕ, ◌+◌, ◌*◌, ◌-◌, ◌^◌, ◌≤◌, ◌<◌}
 use native.Mathlib.Omega.{arith}
 use lib.Dec.{eqb, ltb, leb}
-use lib.ListN.{length}
+use lib.ListN.{length, take}
 use borrow.Author.Tests.{eq-eqb, ne_eqb, leb-false, eqb-true, ltb-false, not-false}
 use Rattle.units.specs.declared.BytePlace.{BytePlace}
-use Rattle.units.specs.declared.Slot.{Slot}
 use Rattle.units.specs.declared.why.Why.{Why}
-use Rattle.units.specs.Answer.{Answer, accepted, refused, refuse, pick, and_then, beside}
+use Rattle.units.specs.Answer.{Answer, accepted, refused, refuse, pick, and_then}
 use Rattle.units.specs.Bytes.{part}
 use Rattle.units.specs.Places.{good_size, inside_or_empty, array_place_of}
 use Rattle.units.proofs.Laws.{by-pick}
@@ -19,9 +18,8 @@ use Rattle.header.specs.declared.Header.{Header}
 use Rattle.header.specs.Writing.{array_bytes, parts_sum}
 use Rattle.partition.specs.declared.Partition.{Partition}
 use Rattle.partition.specs.Format.{nil_type_at, entry_at, zero_partition}
-use Rattle.partition.specs.Array.{reading_of}
-use Rattle.rows.specs.Slots.{first_after, place_each, typed_each}
-use Rattle.rows.proofs.Slots.{next-none, next-some, entry-within}
+use Rattle.rows.specs.Slots.{slots_from, place_each, typed_each}
+use Rattle.rows.proofs.Slots.{entry-within}
 use Rattle.uefi.specs.Sizes.{good_each}
 use Rattle.uefi.specs.Array.{array_by_uefi, after_by_uefi, place_by_uefi, held_at, entry_by_uefi}
 use Rattle.uefi.proofs.Each.{each-range}
@@ -185,12 +183,11 @@ module _ (xs : List ℕ) (h : Header) (b slot : ℕ) where
           let j : p.0 + k * h.part_size ≡ q.0 = cc in
           omega (arith, slot-inside e f)
 
-  pub read-refused : {w : Why} → place_by_uefi xs h b slot ≡ refused w
-      → record { verdict = refused w; value = record { present = false; partition = zero_partition } } ≡ reading_of (entry_by_uefi xs h b slot)
-  unfolding beside entry_by_uefi
+  pub read-refused : {w : Why} → place_by_uefi xs h b slot ≡ refused w → refused w ≡ entry_by_uefi xs h b slot
+  unfolding entry_by_uefi
   read-refused e = rw e
 
-  pub read_found : {q : BytePlace} → place_by_uefi xs h b slot ≡ accepted q → beside (record { present = false; partition = zero_partition }) (accepted (held_at xs q.0)) ≡ reading_of (entry_by_uefi xs h b slot)
+  pub read_found : {q : BytePlace} → place_by_uefi xs h b slot ≡ accepted q → accepted (held_at xs q.0) ≡ entry_by_uefi xs h b slot
   unfolding entry_by_uefi
   read_found e = rw e
 
@@ -203,12 +200,12 @@ module _ (xs : List ℕ) (at : ℕ) {t : Bool} (e : t ≡ not (nil_type_at xs at
       twice true = refl
       twice false = refl
 
-  pub held-nil : {p : Partition} → not t ≡ true → p ≡ zero_partition → record { verdict = accepted tt; value = record { present = false; partition = p } } ≡ reading_of (accepted (held_at xs at))
-  unfolding beside held_at
-  held-nil f g = rw (nil_is, f, g)
+  pub held-nil : not t ≡ true → record { present = false; partition = zero_partition } ≡ held_at xs at
+  unfolding held_at
+  held-nil f = rw (nil_is, f)
 
-  pub held-used : {p : Partition} → not t ≡ false → p ≡ entry_at xs at → record { verdict = accepted tt; value = record { present = true; partition = p } } ≡ reading_of (accepted (held_at xs at))
-  unfolding beside held_at
+  pub held-used : {p : Partition} → not t ≡ false → p ≡ entry_at xs at → record { present = true; partition = p } ≡ held_at xs at
+  unfolding held_at
   held-used f g = rw (nil_is, f, g)
 
 -- ---- the next slot
@@ -218,11 +215,6 @@ module _ (xs : List ℕ) (h : Header) (b after : ℕ) where
   unfolding after_by_uefi
   after-refused e = rw e
 
-  module _ {p : BytePlace} {s : Slot} (e : array_by_uefi xs h b ≡ accepted p) (f : s.0 ≡ first_after (typed_each xs h.part_size p.0) h.num_parts after) where
-    pub after_none : s.0 ≡ 0 → accepted [] ≡ after_by_uefi xs h b after
-    unfolding after_by_uefi
-    after_none z = rw (e, next-none (typed_each xs h.part_size p.0) h.num_parts after (sym f ∙ z))
-
-    pub after-some : (s.0 ≡ 0 → ⊥) → accepted (s.0 ∷ []) ≡ after_by_uefi xs h b after
-    unfolding after_by_uefi
-    after-some z = rw (e, next-some (typed_each xs h.part_size p.0) h.num_parts after (λ q. z (f ∙ q)), f)
+  pub after_given : {p : BytePlace} {l : List ℕ} → array_by_uefi xs h b ≡ accepted p → l ≡ take 1 (slots_from (typed_each xs h.part_size p.0) after (h.num_parts - after)) → accepted l ≡ after_by_uefi xs h b after
+  unfolding after_by_uefi
+  after_given e f = rw (e, f)

@@ -1,13 +1,13 @@
 -- The laws of an entry size: it is 128 times a power of two, and from 128 to 4,096. The six sizes are never told apart. No contract cites this file. Assumes nothing.
 use mathlib.Core.Path.{◌≡◌, refl, sym, ap, ◌∙◌}
 use mathlib.Core.Bool.{Bool, true, false, ◌||◌}
-use Prim.Native.Nat.{ℕ, zero, suc, ◌+◌, ◌*◌, ◌-◌, ◌^◌, ◌≤◌, ◌<◌}
+use Prim.Native.Nat.{ℕ, zero, suc, ◌+◌, ◌*◌, ◌^◌, ◌≤◌, ◌<◌}
 use native.Mathlib.Nat.{mul-one, mul_assoc, mul_comm, pow-suc, pow-le-pow_right, lt_of_not-le}
 use native.Mathlib.Decide.{dec_le}
 use native.Mathlib.Omega.{arith}
 use lib.Dec.{eqb}
 use lib.Pow.{pow_pos}
-use borrow.Author.Tests.{eq-eqb, ne_eqb, eqb-true}
+use borrow.Author.Tests.{eq-eqb, eqb-true}
 use Rattle.uefi.specs.Sizes.{doubled, good_each}
 
 -- n is s times a power of two below the m-th
@@ -61,17 +61,3 @@ each-yes n k e h =
       | no g ↦ lt_of_not-le g
     ]
     in doubled-yes 6 128 n k l e
-
--- ---- the loop over the sizes
-
-pub each_first : (s k n : ℕ) → k < 6 → n ≡ s → doubled s (6 - k) n ≡ true
-unfolding doubled
-each_first s k n h e = let a : 6 - k ≡ suc (6 - (k + 1)) = omega arith in rw (a, eq-eqb n s e)
-
-pub each_more : (s k n : ℕ) → k < 6 → (n ≡ s → ⊥) → doubled s (6 - k) n ≡ doubled (s * 2) (6 - (k + 1)) n
-unfolding doubled
-each_more s k n h e = let a : 6 - k ≡ suc (6 - (k + 1)) = omega arith in rw (a, ne_eqb n s e)
-
-pub each_none : (s k n : ℕ) → 6 ≤ k → doubled s (6 - k) n ≡ false
-unfolding doubled
-each_none s k n h = let a : 6 - k ≡ 0 = omega arith in rw a

@@ -13,11 +13,11 @@ use Rattle.units.specs.declared.Refusal.TheVariants.{EmptyList}
 use Rattle.units.specs.declared.Reason.{Reason}
 use Rattle.units.specs.declared.Place.{Place}
 use Rattle.units.specs.declared.Place.TheVariants.{Nowhere}
-use Rattle.units.specs.declared.CardVerdict.TheVariants as verdict
+use Rattle.std.specs.Prelude.{Result, Ok, Err}
 use Rattle.units.specs.declared.why.Why.{Why}
 use Rattle.units.specs.Answer.{Answer, accepted, refused, plain, fine, placed, within, dropped, when, if_zero, or_else, judged, settle, gives, pick}
 use Rattle.units.specs.Refusals.{why, why_at, number, names, refusal_of, reason_of, later_refusal, reason-back}
-use Rattle.units.specs.Meanings.{card_means, verdict_of}
+use Rattle.units.specs.Meanings.{card_means, verdict_of, means}
 
 -- ---- the ways out of the code
 
@@ -186,25 +186,16 @@ pub verdict-judged : (w : Why) → Named w → card_means (verdict_of w) ≡ jud
 unfolding verdict_of judged
 verdict-judged w n = by w.number (reason_of w) n.name
   where
-    by : (k : ℕ) (r : Reason) → ((k ≡ 0 → ⊥) → why_at r ≡ w) → card_means (if_zero k verdict.Accepted (verdict.Refused r)) ≡ if_zero k (accepted tt) (refused w)
+    by : (k : ℕ) (r : Reason) → ((k ≡ 0 → ⊥) → why_at r ≡ w) → card_means (if_zero {X = Result Unit Reason} k (Ok tt) (Err r)) ≡ if_zero k (accepted tt) (refused w)
     by zero r e = refl
     by (suc k) r e = ap refused (e (λ z. omega arith))
 
 -- ---- numbers by name, as a match of code comes to them
 
-pub is-named : (w : Why) {k : ℕ} → w.number ≡ k → get_or (names w.slot) k EmptyList ≡ refusal_of w
-unfolding refusal_of
-is-named w e = ap (λ (n : ℕ). get_or (names w.slot) n EmptyList) (sym e)
-
 past_end : {A : Type 0} (xs : List A) (n : ℕ) (d : A) → length xs ≤ n → d ≡ get_or xs n d
 past_end [] n d h = refl
 past_end (x ∷ xs) zero d h = absurd (omega arith)
 past_end (x ∷ xs) (suc n) d h = past_end xs n d (omega arith)
-
--- the names of document 02, which the names of document 01 leave over
-pub is_later : (w : Why) {k : ℕ} → w.number ≡ k → T (ltb 24 k) → get_or (names w.slot) k EmptyList ≡ later_refusal w
-unfolding refusal_of
-is_later w {k} e h = let l : ltb 24 k ≡ true = lt-ltb 24 k (ltb→lt 24 k h) in rw (e, l)
 
 pub past-later : (w : Why) → (24 < w.number → 37 < w.number) → EmptyList ≡ later_refusal w
 unfolding refusal_of
@@ -222,13 +213,13 @@ later-names w p = by w.number p
     by zero q = refl
     by (suc n) q = ap (λ (t : Bool). pick t (get_or (names w.slot) (suc n) EmptyList) EmptyList) (lt-ltb 24 (suc n) (q (omega arith)))
 
-pub verdict-fine : (w : Why) → w.number ≡ 0 → verdict.Accepted ≡ verdict_of w
+pub verdict-fine : (w : Why) → w.number ≡ 0 → Ok tt ≡ verdict_of w
 unfolding verdict_of
 verdict-fine w e = rw e
 
-pub verdict-refused : (w : Why) {r : Reason} → (w.number ≡ 0 → ⊥) → r ≡ reason_of w → verdict.Refused r ≡ verdict_of w
+pub verdict-refused : (w : Why) {r : Reason} → (w.number ≡ 0 → ⊥) → r ≡ reason_of w → Err r ≡ verdict_of w
 unfolding verdict_of
-verdict-refused w d e = ap verdict.Refused e ∙ some w.number verdict.Accepted (verdict.Refused (reason_of w)) d
+verdict-refused w d e = ap Err e ∙ some w.number (Ok tt) (Err (reason_of w)) d
 
 -- ---- the ends of a call
 

@@ -4,21 +4,22 @@ use mathlib.Core.Logic.{◌⊎◌, inl, inr, ⊎_elim}
 use mathlib.Core.Bool.{Bool, true, false, not, ◌&&◌, ◌||◌}
 use mathlib.Core.List.{List, [], ◌∷◌, ◌++◌}
 use Prim.Native.Nat.{ℕ, zero, suc, ◌+◌, ◌*◌, ◌-◌, ◌/◌, ◌%◌, ◌^◌, ◌≤◌, ◌<◌}
-use native.Mathlib.Nat.{eq-zero-or-pos, lt_of_not-le, pow-suc, pow-le-pow_right, div-lt_iff_lt-mul, le-div_iff_mul-le, mul-le-mul}
+use native.Mathlib.Nat.{eq-zero-or-pos, lt_of_not-le, pow-suc, div-lt_iff_lt-mul, le-div_iff_mul-le, mul-le-mul}
 use native.Mathlib.Decide.{dec_le}
 use native.Mathlib.Omega.{arith}
 use lib.Bits.{bit_or, bit_xor, or_add_and, and_le_l, and_le_r, xor_add_and, xor_self}
 use lib.Dec.{eqb, leb}
-use lib.ListN.{length, take, drop, get_or, set, replicate, length-append, drop_of_length-le}
-use lib.Seq.{drop-cons, drop-drop, sets, take_at, drop_at, get_or-drop}
+use lib.ListN.{length, take, drop, get_or, replicate}
+use lib.Seq.{drop-drop, sets, take_at, drop_at, get_or-drop}
 use borrow.Author.Tests.{lt-ltb, le-ltb, le-leb, lt-leb, eq-eqb, ne_eqb, leb-true, eqb-true, not-false}
+use Rattle.std.specs.List.{fold, zip}
 use Rattle.units.specs.declared.BytePlace.{BytePlace}
 use Rattle.units.specs.declared.why.Why.{Why}
 use Rattle.units.specs.Answer.{Answer, accepted, refused, refuse, plain, pick}
-use Rattle.units.specs.Bytes.{part, le, num, bytes, total, laid, same, all_zero}
+use Rattle.units.specs.Bytes.{part, le, num, bytes, same, all_zero}
 use Rattle.units.specs.Places.{good_size, inside, place_of}
 use Rattle.units.specs.Held.{Small}
-use Rattle.units.proofs.Lists.{length_part, part-part, part_out, part_same, part_step, store-more, sets_then}
+use Rattle.units.proofs.Lists.{length_part, part-part, part_out, part_same, and_then}
 
 -- ---- tests
 
@@ -114,55 +115,15 @@ product-not n m h k = omega (arith, (div-lt_iff_lt-mul {k = m} {x = 2 ^ 64 - 1} 
 
 -- ---- numbers
 
--- one byte more in front of a number
-pub num-more : (xs : List ℕ) (at k : ℕ) → at < length xs → num xs at (suc k) ≡ get_or xs at 0 + 256 * num xs (suc at) k
-unfolding num le
-num-more xs at k h = rw (drop-cons xs at 0 h)
-
--- the same for a reader that goes down from place at + i
-pub num-down : (xs : List ℕ) (at i n : ℕ) → 0 < i → i ≤ n → at + n ≤ length xs
-    → num xs (at + (i - 1)) (n - (i - 1)) ≡ num xs (at + i) (n - i) * 256 + get_or xs (at + (i - 1)) 0
-num-down xs at i n h k f =
-    let a : n - (i - 1) ≡ suc (n - i) = omega arith in
-    let b : suc (at + (i - 1)) ≡ at + i = omega arith in
-    let l : at + (i - 1) < length xs = omega arith in
-    let e : num xs (at + (i - 1)) (suc (n - i)) ≡ get_or xs (at + (i - 1)) 0 + 256 * num xs (suc (at + (i - 1))) (n - i) =
-    num-more xs (at + (i - 1)) (n - i) l in
-    rw a (e ∙ rw b (omega arith))
-
-pub pow-down : (i n : ℕ) → 0 < i → i ≤ n → 256 ^ (n - (i - 1)) ≡ 256 ^ (n - i) * 256
-pow-down i n h k =
-    let a : n - (i - 1) ≡ suc (n - i) = omega arith in
-    rw a (pow-suc 256 (n - i))
-
--- what the reader has passed fits 7 bytes while one is left
-pub pow-7 : (i n : ℕ) → 0 < i → n ≤ 8 → 256 ^ (n - i) ≤ 256 ^ 7
-pow-7 i n h k =
-    let l : n - i ≤ 7 = omega arith in
-    pow-le-pow_right (omega arith) l
-
--- a number of no bytes
-pub num-none : (xs : List ℕ) (at : ℕ) → num xs at 0 ≡ 0
-unfolding num le
-num-none xs at = refl
-
--- a store of the next byte, and then of what is left, is the store of all
-pub put-more : (s : List ℕ) (at i n v : ℕ) → i < n
-    → sets (set s (at + i) (v % 256)) (at + (i + 1)) (bytes (n - (i + 1)) (v / 256)) ≡ sets s (at + i) (bytes (n - i) v)
-unfolding bytes
-put-more s at i n v h =
-    let a : n - i ≡ suc (n - (i + 1)) = omega arith in
-    store-more s at i (v % 256) (bytes (n - (i + 1)) (v / 256)) ∙ rw a
-
--- a store of no bytes
-pub put-none : (s : List ℕ) (at v : ℕ) → sets s at (bytes 0 v) ≡ s
-unfolding bytes
-put-none s at v = refl
-
 pub length-bytes : (n x : ℕ) → length (bytes n x) ≡ n
 unfolding bytes
 length-bytes zero x = refl
 length-bytes (suc n) x = ap suc (length-bytes n (x / 256))
+
+-- a number stored in n bytes, and then what stands behind it, as one store
+pub field_then : (s : List ℕ) (at n x : ℕ) {s₁ : List ℕ} (j : ℕ) (ws : List ℕ) {s₂ : List ℕ}
+    → at + n ≡ j → s₁ ≡ sets s at (bytes n x) → s₂ ≡ sets s₁ j ws → s₂ ≡ sets s at (bytes n x ++ ws)
+field_then s at n x j ws h e f = and_then s at (bytes n x) j ws (simp length-bytes h) e f
 
 -- without its first byte a number fits one byte less
 fits_next : (n x : ℕ) → x < 256 ^ suc n → x / 256 < 256 ^ n
@@ -268,31 +229,6 @@ pub bytes-num : (xs : List ℕ) (at n : ℕ) → at + n ≤ length xs → Small 
 unfolding num
 bytes-num xs at n h b = rw (length_part xs at n h) at (bytes_le (part xs at n) (small-part xs at n b))
 
--- ---- fields one after the other
-
-pub total-more : (ws : List ℕ) (i : ℕ) → i < length ws → total (drop i ws) ≡ get_or ws i 0 + total (drop (i + 1) ws)
-unfolding total
-total-more ws i h = let b : i + 1 ≡ suc i = omega arith in rw (b, drop-cons ws i 0 h)
-
-pub laid_more : (s : List ℕ) (p : ℕ) (ws vs : List ℕ) (i : ℕ) → i < length ws → i < length vs
-    → sets (sets s p (bytes (get_or ws i 0) (get_or vs i 0))) (p + get_or ws i 0) (laid (drop (i + 1) ws) (drop (i + 1) vs)) ≡ sets s p (laid (drop i ws) (drop i vs))
-unfolding laid
-laid_more s p ws vs i h k =
-    let b : i + 1 ≡ suc i = omega arith in
-    sets_then s p (bytes (get_or ws i 0) (get_or vs i 0)) (p + get_or ws i 0) (laid (drop (i + 1) ws) (drop (i + 1) vs)) (rw length-bytes)
-    ∙ rw (drop-cons ws i 0 h, drop-cons vs i 0 k, b)
-
-pub laid_none : (s : List ℕ) (p : ℕ) (ws vs : List ℕ) (i : ℕ) → length ws ≤ i → sets s p (laid (drop i ws) (drop i vs)) ≡ s
-unfolding laid
-laid_none s p ws vs i h = rw (drop_of_length-le ws h)
-
-pub length-laid : (ws vs : List ℕ) → length ws ≡ length vs → length (laid ws vs) ≡ total ws
-unfolding laid total
-length-laid [] vs e = refl
-length-laid (w ∷ ws) [] e = absurd (omega arith)
-length-laid (w ∷ ws) (v ∷ vs) e =
-    omega (arith, length-append (bytes w v) (laid ws vs), length-bytes w v, length-laid ws vs (omega arith))
-
 -- ---- zeros
 
 -- an or is zero exactly where both are
@@ -316,17 +252,11 @@ and-true : (a : Bool) → (a && true) ≡ a
 and-true true = refl
 and-true false = refl
 
--- a scan that ors the bytes together
-pub zero_more : (xs : List ℕ) (at acc i n : ℕ) → i < n → at + n ≤ length xs
-    → (eqb (bit_or acc (get_or xs (at + i) 0)) 0 && all_zero (part xs (at + (i + 1)) (n - (i + 1)))) ≡ (eqb acc 0 && all_zero (part xs (at + i) (n - i)))
+-- a scan that ors the bytes together is zero exactly where it began with zero and each byte is
+pub fold_zero : (acc : ℕ) (xs : List ℕ) → eqb (fold bit_or acc xs) 0 ≡ (eqb acc 0 && all_zero xs)
 unfolding all_zero
-zero_more xs at acc i n h k =
-    rw (part_step xs at i n h k, or-zero acc (get_or xs (at + i) 0))
-    (and_assoc (eqb acc 0) (eqb (get_or xs (at + i) 0) 0) (all_zero (part xs (at + (i + 1)) (n - (i + 1)))))
-
-pub zero-end : (xs : List ℕ) (at acc k : ℕ) → k ≡ 0 → (eqb acc 0 && all_zero (part xs at k)) ≡ eqb acc 0
-unfolding all_zero
-zero-end xs at acc k e = rw e (and-true (eqb acc 0))
+fold_zero acc [] = sym (and-true (eqb acc 0))
+fold_zero acc (x ∷ xs) = fold_zero (bit_or acc x) xs ∙ rw (or-zero acc x) (and_assoc (eqb acc 0) (eqb x 0) (all_zero xs))
 
 -- an exclusive or is zero exactly where the two are the same
 xor-zero : (a b : ℕ) → eqb (bit_xor a b) 0 ≡ eqb a b
@@ -339,22 +269,15 @@ xor-zero a b =
     (λ z. ne_eqb (bit_xor a b) 0 z ∙ sym (ne_eqb a b (λ e. z (ap (λ (y : ℕ). bit_xor y b) e ∙ xor_self b))))
 
 -- a scan that ors the differences together
-pub same_more : (xs : List ℕ) (at : ℕ) (ys : List ℕ) (acc i : ℕ) → i < length ys → at + length ys ≤ length xs
-    → (eqb (bit_or acc (bit_xor (get_or xs (at + i) 0) (get_or ys i 0))) 0 && same (part xs (at + (i + 1)) (length ys - (i + 1))) (drop (i + 1) ys))
-    ≡ (eqb acc 0 && same (part xs (at + i) (length ys - i)) (drop i ys))
+pub fold_same : (acc : ℕ) (xs ys : List ℕ) → length xs ≡ length ys
+    → eqb (fold (λ (a : ℕ) (p : ℕ × ℕ). bit_or a (bit_xor p.0 p.1)) acc (zip xs ys)) 0 ≡ (eqb acc 0 && same xs ys)
 unfolding same
-same_more xs at ys acc i h k =
-    let j : i + 1 ≡ suc i = omega arith in
-    let b : drop (i + 1) ys ≡ drop (suc i) ys = ap (λ (m : ℕ). drop m ys) j in
-    rw (part_step xs at i (length ys) h k, drop-cons ys i 0 h, b, or-zero acc (bit_xor (get_or xs (at + i) 0) (get_or ys i 0)), xor-zero (get_or xs (at + i) 0) (get_or ys i 0))
-    (and_assoc (eqb acc 0) (eqb (get_or xs (at + i) 0) (get_or ys i 0)) (same (part xs (at + (i + 1)) (length ys - (i + 1))) (drop (suc i) ys)))
-
-pub same_end : (xs : List ℕ) (at : ℕ) (ys : List ℕ) (acc i : ℕ) → length ys ≤ i
-    → (eqb acc 0 && same (part xs at (length ys - i)) (drop i ys)) ≡ eqb acc 0
-unfolding same
-same_end xs at ys acc i h =
-    let e : length ys - i ≡ 0 = omega arith in
-    rw (e, drop_of_length-le ys h) (and-true (eqb acc 0))
+fold_same acc [] [] e = sym (and-true (eqb acc 0))
+fold_same acc [] (y ∷ ys) e = absurd (omega arith)
+fold_same acc (x ∷ xs) [] e = absurd (omega arith)
+fold_same acc (x ∷ xs) (y ∷ ys) e =
+    fold_same (bit_or acc (bit_xor x y)) xs ys (omega arith)
+    ∙ rw (or-zero acc (bit_xor x y), xor-zero x y) (and_assoc (eqb acc 0) (eqb x y) (same xs ys))
 
 -- the two are one list exactly where the answer is true
 pub same_true : (xs ys : List ℕ) → same xs ys ≡ true → xs ≡ ys

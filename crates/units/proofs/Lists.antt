@@ -3,11 +3,12 @@
 use mathlib.Core.Path.{◌≡◌, refl, sym, ap, ◌∙◌}
 use mathlib.Core.Logic.{◌⊎◌, inl, inr}
 use mathlib.Core.List.{List, [], ◌∷◌, ◌++◌, append-nil, append_assoc}
-use Prim.Native.Nat.{ℕ, zero, suc, ◌+◌, ◌-◌, ◌≤◌, ◌<◌}
-use native.Mathlib.Nat.{add-zero, zero-add, sub-zero, suc-add, add-suc}
+use Prim.Native.Nat.{ℕ, suc, ◌+◌, ◌-◌, ◌≤◌, ◌<◌}
+use native.Mathlib.Nat.{add-zero, add-suc}
 use native.Mathlib.Omega.{arith}
 use lib.ListN.{length, take, drop, get_or, set, replicate, length-set, length-drop, drop_of_length-le, get_or-append}
-use lib.Seq.{drop-cons, set-append_left, set_comm, drop-drop, sets, sets-eq, take_at, drop_at, take-nil, take_all, take-add, take-take, take-append-le, drop-append-le, get_or-take, get_or-drop, get_or-set_other, length-take-le, drop-set-lt, drop-set-add, take-set-le}
+use lib.Seq.{drop-cons, set-append_left, set_comm, drop-drop, sets, sets-eq, take_at, drop_at, take_all, take-add, take-take, take-append-le, drop-append-le, get_or-take, get_or-drop, get_or-set_other, length-take-le, drop-set-lt, drop-set-add, take-set-le}
+use Rattle.std.proofs.lemmas.List.{drop-take, set-append_right}
 use Rattle.units.specs.Bytes.{part}
 
 -- ---- parts
@@ -17,11 +18,6 @@ length_part xs at n h = length-take-le n (drop at xs) (simp length-drop (omega a
 
 pub get_d_part : (xs : List ℕ) (at n i : ℕ) → i < n → get_or (part xs at n) i 0 ≡ get_or xs (at + i) 0
 get_d_part xs at n i h = get_or-take n (drop at xs) i 0 h ∙ get_or-drop at xs i 0
-
-drop-take : (o m : ℕ) (l : List ℕ) → drop o (take (o + m) l) ≡ take m (drop o l)
-drop-take zero m l = rw zero-add
-drop-take (suc o) m [] = rw (suc-add, take-nil)
-drop-take (suc o) m (x ∷ l) = rw suc-add (drop-take o m l)
 
 -- a part of a part
 pub part-part : (xs : List ℕ) (a n o m : ℕ) → o + m ≤ n → part (part xs a n) o m ≡ part xs (a + o) m
@@ -144,29 +140,11 @@ sets-all l vs e =
 pub store-more : (s : List ℕ) (at i v : ℕ) (vs : List ℕ) → sets (set s (at + i) v) (at + (i + 1)) vs ≡ sets s (at + i) (v ∷ vs)
 store-more s at i v vs = let b : at + (i + 1) ≡ suc (at + i) = omega arith in rw b
 
-pub copy_more : (s : List ℕ) (at : ℕ) (src : List ℕ) (i : ℕ) → i < length src
-    → sets (set s (at + i) (get_or src i 0)) (at + (i + 1)) (drop (i + 1) src) ≡ sets s (at + i) (drop i src)
-copy_more s at src i h =
-    let a : i + 1 ≡ suc i = omega arith in
-    store-more s at i (get_or src i 0) (drop (i + 1) src) ∙ rw (drop-cons src i 0 h, a)
-
 pub zeros-more : (s : List ℕ) (at i n : ℕ) → i < n
     → sets (set s (at + i) 0) (at + (i + 1)) (replicate (n - (i + 1)) 0) ≡ sets s (at + i) (replicate (n - i) 0)
 zeros-more s at i n h =
     let a : n - i ≡ suc (n - (i + 1)) = omega arith in
     store-more s at i 0 (replicate (n - (i + 1)) 0) ∙ rw a
-
--- ---- a part of a list copied to the front of another
-
-pub copy-first : (o s : List ℕ) (at : ℕ) → at + length o ≤ length s → sets o 0 (part s (at + 0) (length o - 0)) ≡ part s at (length o)
-copy-first o s at h =
-    simp (add-zero, sub-zero) (sets-all o (part s at (length o)) (sym (length_part s at (length o) h)))
-
-pub copy_step : (o s : List ℕ) (at i n : ℕ) → i < n → at + n ≤ length s
-    → sets (set o i (get_or s (at + i) 0)) (i + 1) (part s (at + (i + 1)) (n - (i + 1))) ≡ sets o i (part s (at + i) (n - i))
-copy_step o s at i n h k =
-    let b : i + 1 ≡ suc i = omega arith in
-    rw (part_step s at i n h k, b)
 
 -- ---- a lent part, `&mut s[at..at + n]`: what is lent, and the whole with ys come back in its place
 
@@ -183,13 +161,11 @@ lent_back xs ys at n h l =
     let e : at + (at + n - at) ≡ at + length ys = omega arith in
     rw (sets-eq ys xs at f, append_assoc, drop-drop (at + n - at) at xs, e)
 
-set-right : (p q : List ℕ) (j v : ℕ) → set (p ++ q) (length p + j) v ≡ p ++ set q j v
-set-right [] q j v = rw zero-add
-set-right (x ∷ p) q j v = rw suc-add (ap (λ (l : List ℕ). x ∷ l) (set-right p q j v))
-
 pub sets-right : (p q : List ℕ) (j : ℕ) (vs : List ℕ) → sets (p ++ q) (length p + j) vs ≡ p ++ sets q j vs
 sets-right p q j [] = refl
-sets-right p q j (v ∷ vs) = rw (set-right p q j v, ← add-suc) (sets-right p (set q j v) (suc j) vs)
+sets-right p q j (v ∷ vs) =
+    let e : length p + j - length p ≡ j = omega arith in
+    rw (set-append_right p q (length p) (length p + j) v refl (omega arith), e, ← add-suc) (sets-right p (set q j v) (suc j) vs)
 
 pub sets-left : (p q : List ℕ) (j : ℕ) (vs : List ℕ) → j + length vs ≤ length p → sets (p ++ q) j vs ≡ sets p j vs ++ q
 sets-left p q j [] h = refl

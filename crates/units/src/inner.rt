@@ -1,8 +1,8 @@
 // Leaves for our own crates: each `requires` is a range that its caller has tested. No public calls.
-ghost use Rattle.std.specs.Prelude.{◌≡◌, ◌+◌, ◌*◌, ◌-◌, ◌^◌, ◌≤◌, ◌<◌, length, replicate};
+ghost use Rattle.std.specs.Prelude.{◌≡◌, ℕ, ◌+◌, ◌*◌, ◌-◌, ◌^◌, ◌≤◌, ◌<◌, length, replicate};
 ghost use Rattle.std.proofs.lemmas.List.Edits.{sets};
-ghost use Rattle.units.specs.Bytes.{part, num, bytes, total, laid, same, all_zero};
-ghost use Rattle.units.specs.Numbers.{width_of, bytes_in, value_in};
+ghost use Rattle.units.specs.Bytes.{part, num, bytes, same, all_zero};
+ghost use Rattle.units.specs.Numbers.{width_of, bytes_in};
 ghost use Rattle.units.specs.Guids.{tail_at, tail_bytes, guid_at, guid_bytes};
 
 use crate::{BytePlace, Guid, Lba, Number, Slot, Tail, Width};
@@ -19,11 +19,7 @@ pub fn place(block: Lba, b: u64) -> BytePlace
 pub fn array_place(slot: Slot) -> u32
     ensures { result ≡ slot.0 - 1 }
 {
-    let s = slot.0;
-    if s == 0 {
-        return 0;
-    }
-    s - 1
+    slot.0.saturating_sub(1)
 }
 
 pub fn slot_at(place: u32) -> Slot
@@ -33,97 +29,112 @@ pub fn slot_at(place: u32) -> Slot
     Slot(place + 1)
 }
 
-// The bytes of a width.
-pub fn width_bytes(width: Width) -> usize
-    ensures { (result ≡ width_of width) × (result ≤ 8) }
-{
-    match width {
-        Width::Two => 2,
-        Width::Four => 4,
-        Width::Eight => 8,
+impl Width {
+    // The bytes of a width.
+    pub fn bytes(self) -> usize
+        ensures { (result ≡ width_of self) × (result ≤ 8) }
+    {
+        match self {
+            Width::Two => 2,
+            Width::Four => 4,
+            Width::Eight => 8,
+        }
     }
 }
 
-// The bytes that a number takes.
-pub fn number_bytes(x: Number) -> usize
-    ensures { (result ≡ bytes_in x) × (result ≤ 8) }
-{
-    match x {
-        Number::Two(_v) => 2,
-        Number::Four(_v) => 4,
-        Number::Eight(_v) => 8,
+impl Number {
+    // The bytes that a number takes.
+    pub fn bytes(self) -> usize
+        ensures { (result ≡ bytes_in self) × (result ≤ 8) }
+    {
+        match self {
+            Number::Two(_) => 2,
+            Number::Four(_) => 4,
+            Number::Eight(_) => 8,
+        }
     }
 }
 
-pub fn number_value(x: Number) -> u64
-    ensures { result ≡ value_in x }
+// The N bytes at place at, by value.
+pub fn array_at<const N: usize>(s: &[u8], at: usize) -> [u8; N]
+    requires { at + N ≤ length s.now }
+    ensures { result ≡ part s.now at N }
 {
-    match x {
-        Number::Two(v) => v as u64,
-        Number::Four(v) => v as u64,
-        Number::Eight(v) => v,
+    let mut out = [0; N];
+    out.copy_from_slice(&s[at..at + N]);
+    out
+}
+
+// A number that stands in bytes, least byte first.
+pub trait Field: Copy {
+    ghost width: { ℕ };
+
+    ghost value: { Self → ℕ };
+
+    fn get(s: &[u8], at: usize) -> Self
+        requires { at + width ≤ length s.now }
+        ensures { value result ≡ num s.now at width };
+
+    fn put(self, s: &mut [u8], at: usize)
+        requires { at + width ≤ length s.old }
+        ensures { s.new ≡ sets s.old at (bytes width (value self)) };
+}
+
+impl Field for u16 {
+    ghost width = { 2 };
+
+    ghost value = { λ x. x };
+
+    #[tactic(auto, unfolding(crate::specs::Bytes::num, crate::specs::Bytes::le))]
+    fn get(s: &[u8], at: usize) -> u16 {
+        u16::from_le_bytes(array_at(s, at))
+    }
+
+    #[tactic(auto, unfolding(crate::specs::Bytes::bytes))]
+    fn put(self, s: &mut [u8], at: usize) {
+        put_bytes(s, at, &self.to_le_bytes());
     }
 }
 
-// The number in the n bytes at place at, least byte first.
-pub fn num_at(s: &[u8], at: usize, n: usize) -> u64
-    requires { (n ≤ 8) × (at + n ≤ length s.now) }
-    ensures { (result ≡ num s.now at n) × (result < 256 ^ n) }
-{
-    let mut v: u64 = 0;
-    let mut i = n;
-    while 0 < i {
-        i -= 1;
-        v = v * 256 + (s[at + i] as u64);
+impl Field for u32 {
+    ghost width = { 4 };
+
+    ghost value = { λ x. x };
+
+    #[tactic(auto, unfolding(crate::specs::Bytes::num, crate::specs::Bytes::le))]
+    fn get(s: &[u8], at: usize) -> u32 {
+        u32::from_le_bytes(array_at(s, at))
     }
-    v
+
+    #[tactic(auto, unfolding(crate::specs::Bytes::bytes))]
+    fn put(self, s: &mut [u8], at: usize) {
+        put_bytes(s, at, &self.to_le_bytes());
+    }
 }
 
-pub fn u16_at(s: &[u8], at: usize) -> u16
-    requires { at + 2 ≤ length s.now }
-    ensures { result ≡ num s.now at 2 }
-{
-    num_at(s, at, 2) as u16
-}
+impl Field for u64 {
+    ghost width = { 8 };
 
-pub fn u32_at(s: &[u8], at: usize) -> u32
-    requires { at + 4 ≤ length s.now }
-    ensures { result ≡ num s.now at 4 }
-{
-    num_at(s, at, 4) as u32
-}
+    ghost value = { λ x. x };
 
-pub fn u64_at(s: &[u8], at: usize) -> u64
-    requires { at + 8 ≤ length s.now }
-    ensures { result ≡ num s.now at 8 }
-{
-    num_at(s, at, 8)
-}
+    #[tactic(auto, unfolding(crate::specs::Bytes::num, crate::specs::Bytes::le))]
+    fn get(s: &[u8], at: usize) -> u64 {
+        u64::from_le_bytes(array_at(s, at))
+    }
 
-// The n low bytes of x, least first, stored at place at.
-pub fn put_num(s: &mut [u8], at: usize, n: usize, x: u64)
-    requires { at + n ≤ length s.old }
-    ensures { s.new ≡ sets s.old at (bytes n x) }
-{
-    let mut v = x;
-    let mut i = 0;
-    while i < n {
-        s[at + i] = (v % 256) as u8;
-        v /= 256;
-        i += 1;
+    #[tactic(auto, unfolding(crate::specs::Bytes::bytes))]
+    fn put(self, s: &mut [u8], at: usize) {
+        put_bytes(s, at, &self.to_le_bytes());
     }
 }
 
 // All of src, stored at place at.
+#[tactic(auto, using(crate::proofs::Lists::lent_back))]
 pub fn put_bytes(s: &mut [u8], at: usize, src: &[u8])
     requires { at + length src.now ≤ length s.old }
     ensures { s.new ≡ sets s.old at src.now }
 {
-    let mut i = 0;
-    while i < src.len() {
-        s[at + i] = src[i];
-        i += 1;
-    }
+    s[at..at + src.len()].copy_from_slice(src);
 }
 
 // The bytes of s from place at on, as many as out has.
@@ -131,38 +142,16 @@ pub fn copy_out(out: &mut [u8], s: &[u8], at: usize)
     requires { at + length out.old ≤ length s.now }
     ensures { out.new ≡ part s.now at (length out.old) }
 {
-    let mut i = 0;
-    while i < out.len() {
-        out[i] = s[at + i];
-        i += 1;
-    }
+    out.copy_from_slice(&s[at..at + out.len()]);
 }
 
 // n zeros, stored at place at.
+#[tactic(auto, using(crate::proofs::Lists::lent_back))]
 pub fn put_zeros(s: &mut [u8], at: usize, n: usize)
     requires { at + n ≤ length s.old }
     ensures { s.new ≡ sets s.old at (replicate n 0) }
 {
-    let mut i = 0;
-    while i < n {
-        s[at + i] = 0;
-        i += 1;
-    }
-}
-
-// Fields one after the other from place at on: the value vals[i] in widths[i] bytes.
-pub fn put_fields<'a>(s: &mut [u8], at: usize, widths: &'a [usize], vals: &'a [u64])
-    requires { (length widths.now ≡ length vals.now) × (at + total widths.now ≤ length s.old) }
-    ensures { s.new ≡ sets s.old at (laid widths.now vals.now) }
-{
-    let mut i = 0;
-    let mut p = at;
-    while i < widths.len() {
-        let w = widths[i];
-        put_num(s, p, w, vals[i]);
-        p += w;
-        i += 1;
-    }
+    s[at..at + n].fill(0);
 }
 
 // Whether the n bytes at place at are all zero: no early exit, so that it runs as vectors.
@@ -170,34 +159,33 @@ pub fn all_zero(s: &[u8], at: usize, n: usize) -> bool
     requires { at + n ≤ length s.now }
     ensures { result ≡ all_zero (part s.now at n) }
 {
-    let mut acc: u8 = 0;
-    let mut i = 0;
-    while i < n {
-        acc |= s[at + i];
-        i += 1;
-    }
-    acc == 0
+    s[at..at + n].iter().fold(0, |acc, b| acc | *b) == 0
 }
 
 // Whether the bytes at place at are those of other: no early exit, so that it runs as vectors.
-pub fn same_at<'a>(s: &'a [u8], at: usize, other: &'a [u8]) -> bool
+pub fn same_at(s: &[u8], at: usize, other: &[u8]) -> bool
     requires { at + length other.now ≤ length s.now }
     ensures { result ≡ same (part s.now at (length other.now)) other.now }
 {
-    let mut acc: u8 = 0;
-    let mut i = 0;
-    while i < other.len() {
-        acc |= s[at + i] ^ other[i];
-        i += 1;
+    let own = &s[at..at + other.len()];
+    own.iter().zip(other).fold(0, |acc, (x, y)| acc | (*x ^ *y)) == 0
+}
+
+impl Tail {
+    // The eight bytes in their order.
+    fn array(self) -> [u8; 8]
+        ensures { result ≡ tail_bytes self }
+    {
+        [
+            self.0, self.1, self.2, self.3, self.4, self.5, self.6, self.7,
+        ]
     }
-    acc == 0
 }
 
 pub fn tail_is_zero(t: Tail) -> bool
     ensures { result ≡ all_zero (tail_bytes t) }
 {
-    let b = [t.0, t.1, t.2, t.3, t.4, t.5, t.6, t.7];
-    all_zero(&b, 0, 8)
+    all_zero(&t.array(), 0, 8)
 }
 
 // The eight bytes at place at.
@@ -205,16 +193,8 @@ pub fn tail_at(s: &[u8], at: usize) -> Tail
     requires { at + 8 ≤ length s.now }
     ensures { result ≡ tail_at s.now at }
 {
-    Tail(
-        s[at],
-        s[at + 1],
-        s[at + 2],
-        s[at + 3],
-        s[at + 4],
-        s[at + 5],
-        s[at + 6],
-        s[at + 7],
-    )
+    let [a, b, c, d, e, f, g, h] = array_at::<8>(s, at);
+    Tail(a, b, c, d, e, f, g, h)
 }
 
 // The GUID in the sixteen bytes at place at.
@@ -223,9 +203,9 @@ pub fn guid_at(s: &[u8], at: usize) -> Guid
     ensures { result ≡ guid_at s.now at }
 {
     Guid {
-        time_low: u32_at(s, at),
-        time_mid: u16_at(s, at + 4),
-        time_high: u16_at(s, at + 6),
+        time_low: u32::get(s, at),
+        time_mid: u16::get(s, at + 4),
+        time_high: u16::get(s, at + 6),
         tail: tail_at(s, at + 8),
     }
 }
@@ -234,8 +214,7 @@ pub fn put_tail(s: &mut [u8], at: usize, t: Tail)
     requires { at + 8 ≤ length s.old }
     ensures { s.new ≡ sets s.old at (tail_bytes t) }
 {
-    let b = [t.0, t.1, t.2, t.3, t.4, t.5, t.6, t.7];
-    put_bytes(s, at, &b);
+    put_bytes(s, at, &t.array());
 }
 
 // The sixteen bytes of a GUID, stored at place at.
@@ -243,9 +222,8 @@ pub fn put_guid(s: &mut [u8], at: usize, g: Guid)
     requires { at + 16 ≤ length s.old }
     ensures { s.new ≡ sets s.old at (guid_bytes g) }
 {
-    put_num(s, at, 4, g.time_low as u64);
-    put_num(s, at + 4, 2, g.time_mid as u64);
-    put_num(s, at + 6, 2, g.time_high as u64);
-    let t = g.tail;
-    put_tail(s, at + 8, t);
+    g.time_low.put(s, at);
+    g.time_mid.put(s, at + 4);
+    g.time_high.put(s, at + 6);
+    put_tail(s, at + 8, g.tail);
 }

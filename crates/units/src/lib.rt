@@ -7,28 +7,31 @@ pub mod why; // why.rt: a refusal as a value that the card's tests hand on
 
 ghost use Rattle.std.specs.Prelude.{◌≡◌};
 ghost use Rattle.units.specs.Answer.{Ends};
+ghost use Rattle.units.specs.declared.Place.TheVariants.{Nowhere};
 ghost use Rattle.units.specs.Refusals.{number, later_number};
 ghost use Rattle.units.specs.Places.{good_size, inside, place_of, place_after, block_of, array_place_of, slot_of};
 ghost use Rattle.units.specs.Numbers.{width_of, bytes_in, value_in, number_read, number_stored};
 ghost use Rattle.units.specs.Guids.{guid_read, guid_stored, is_nil, nil_guid};
-ghost use Rattle.units.specs.Meanings.{placed_means, block_means, array_place_means, slot_means, number_means, guid_means, stored_means};
+ghost use Rattle.units.specs.Meanings.{means};
+
+use inner::Field;
 
 // The number of a block.
 #[repr(C)]
-#[derive(Clone, Copy)]
+#[derive(Clone, Copy, Debug, PartialEq, Eq)]
 pub struct Lba(pub u64);
 
 // A byte's place in a slice, counted from 0.
-#[derive(Clone, Copy)]
+#[derive(Clone, Copy, Debug, PartialEq, Eq)]
 pub struct BytePlace(pub usize);
 
 // An entry's slot, counted from 1. Its array place counts from 0.
 #[repr(C)]
-#[derive(Clone, Copy)]
+#[derive(Clone, Copy, Debug, PartialEq, Eq)]
 pub struct Slot(pub u32);
 
 // Why a call refuses, by the names of documents 01 and 02. Overlap carries the lowest other slot that shares a block, TwinGuid the lowest other slot with that GUID.
-#[derive(Clone, Copy)]
+#[derive(Clone, Copy, Debug, PartialEq, Eq)]
 pub enum Refusal {
     BadBlockSize,
     Short,
@@ -128,15 +131,8 @@ impl Refusal {
     }
 }
 
-// Whether a call accepts. It stands beside a value that holds an array, since an enum holds none.
-#[derive(Clone, Copy)]
-pub enum Verdict {
-    Accepted,
-    Refused(Refusal),
-}
-
 // Where the card check found what it refuses by (document 02, 5/13): in the front table, in the back one, in their disk GUIDs, or in the first slot that differs.
-#[derive(Clone, Copy)]
+#[derive(Clone, Copy, Debug, PartialEq, Eq)]
 pub enum Place {
     Nowhere,
     Front,
@@ -146,17 +142,28 @@ pub enum Place {
 }
 
 // Why a card call refuses: the refusal by its name, and the place that it names.
-#[derive(Clone, Copy)]
+#[derive(Clone, Copy, Debug, PartialEq, Eq)]
 pub struct Reason {
     pub what: Refusal,
     pub place: Place,
 }
 
-// Whether a card call accepts.
-#[derive(Clone, Copy)]
-pub enum CardVerdict {
-    Accepted,
-    Refused(Reason),
+impl Refusal {
+    // The refusal with the place that it names.
+    pub fn at(self, place: Place) -> Reason
+        ensures { result ≡ record { what = self; place = place } }
+    {
+        Reason { what: self, place }
+    }
+}
+
+// A refusal that names no place: what `?` makes of one in a card call.
+impl From<Refusal> for Reason {
+    ghost from_gives = { λ w r. r ≡ record { what = w; place = Nowhere } };
+
+    fn from(what: Refusal) -> Reason {
+        what.at(Place::Nowhere)
+    }
 }
 
 // Whether a block size is 512 or 4,096. Every call that is given another answers 1, first of all.
@@ -176,94 +183,70 @@ pub fn is_inside(len: usize, at: BytePlace, n: usize) -> bool
     at.0 <= len - n
 }
 
-#[derive(Clone, Copy)]
-pub enum Placed {
-    At(BytePlace),
-    Refused(Refusal),
-}
-
 impl Lba {
     // Where the block starts, in blocks of b bytes: 1, 3.
-    pub fn place(self, b: u64) -> Placed
-        ensures { placed_means result ≡ place_of self.0 b }
+    pub fn place(self, b: u64) -> Result<BytePlace, Refusal>
+        ensures { means result ≡ place_of self.0 b }
     {
         if !good_block_size(b) {
-            return Placed::Refused(Refusal::BadBlockSize);
+            return Err(Refusal::BadBlockSize);
         }
         let lba = self.0;
         if 0xFFFF_FFFF_FFFF_FFFF / b < lba {
-            return Placed::Refused(Refusal::Overflow);
+            return Err(Refusal::Overflow);
         }
-        Placed::At(inner::place(self, b))
+        Ok(inner::place(self, b))
     }
-}
-
-#[derive(Clone, Copy)]
-pub enum BlockFound {
-    In(Lba),
-    Refused(Refusal),
 }
 
 impl BytePlace {
     // The place n bytes further on: 3.
-    pub fn after(self, n: usize) -> Placed
-        ensures { placed_means result ≡ place_after self.0 n }
+    pub fn after(self, n: usize) -> Result<BytePlace, Refusal>
+        ensures { means result ≡ place_after self.0 n }
     {
         let at = self.0;
         if 0xFFFF_FFFF_FFFF_FFFF - at < n {
-            return Placed::Refused(Refusal::Overflow);
+            return Err(Refusal::Overflow);
         }
-        Placed::At(BytePlace(at + n))
+        Ok(BytePlace(at + n))
     }
 
     // The block that holds the byte, in blocks of b bytes: 1.
-    pub fn block(self, b: u64) -> BlockFound
-        ensures { block_means result ≡ block_of self.0 b }
+    pub fn block(self, b: u64) -> Result<Lba, Refusal>
+        ensures { means result ≡ block_of self.0 b }
     {
         if !good_block_size(b) {
-            return BlockFound::Refused(Refusal::BadBlockSize);
+            return Err(Refusal::BadBlockSize);
         }
-        BlockFound::In(Lba(self.0 as u64 / b))
+        Ok(Lba(self.0 as u64 / b))
     }
-}
-
-#[derive(Clone, Copy)]
-pub enum ArrayPlace {
-    At(u32),
-    Refused(Refusal),
-}
-
-#[derive(Clone, Copy)]
-pub enum SlotFound {
-    At(Slot),
-    Refused(Refusal),
 }
 
 impl Slot {
     // The slot's place in an array of count entries: 18.
-    pub fn array_place(self, count: u32) -> ArrayPlace
-        ensures { array_place_means result ≡ array_place_of self.0 count }
+    pub fn array_place(self, count: u32) -> Result<u32, Refusal>
+        ensures { means result ≡ array_place_of self.0 count }
     {
         let slot = self.0;
         if slot < 1 || count < slot {
-            return ArrayPlace::Refused(Refusal::BadSlot);
+            return Err(Refusal::BadSlot);
         }
-        ArrayPlace::At(inner::array_place(self))
+        Ok(inner::array_place(self))
     }
 
     // The slot at a place of an array of count entries: 18.
-    pub fn at_array_place(place: u32, count: u32) -> SlotFound
-        ensures { slot_means result ≡ slot_of place count }
+    pub fn at_array_place(place: u32, count: u32) -> Result<Slot, Refusal>
+        ensures { means result ≡ slot_of place count }
     {
         if count <= place {
-            return SlotFound::Refused(Refusal::BadSlot);
+            return Err(Refusal::BadSlot);
         }
-        SlotFound::At(inner::slot_at(place))
+        Ok(inner::slot_at(place))
     }
 }
 
 // How many bytes a number takes.
-#[derive(Clone, Copy)]
+#[derive(Clone, Copy, Debug, PartialEq, Eq)]
 pub enum Width {
     Two,
     Four,
@@ -271,62 +254,47 @@ pub enum Width {
 }
 
 // A number that takes so many bytes.
-#[derive(Clone, Copy)]
+#[derive(Clone, Copy, Debug, PartialEq, Eq)]
 pub enum Number {
     Two(u16),
     Four(u32),
     Eight(u64),
 }
 
-#[derive(Clone, Copy)]
-pub enum NumberRead {
-    Read(u64),
-    Refused(Refusal),
-}
-
-// What a call that stores bytes answers: how many it stored.
-#[derive(Clone, Copy)]
-pub enum Stored {
-    Bytes(usize),
-    Refused(Refusal),
-}
-
-// The same of a card call.
-#[derive(Clone, Copy)]
-pub enum CardStored {
-    Bytes(usize),
-    Refused(Reason),
-}
-
 // The number in the bytes at a place, least byte first: 2.
-pub fn read_number(s: &[u8], at: BytePlace, width: Width) -> NumberRead
-    ensures { number_means result ≡ number_read s.now at.0 (width_of width) }
+#[tactic(auto, unfolding(crate::specs::Numbers::number_read, crate::specs::Places::inside))]
+pub fn read_number(s: &[u8], at: BytePlace, width: Width) -> Result<u64, Refusal>
+    ensures { means result ≡ number_read s.now at.0 (width_of width) }
 {
-    let n = inner::width_bytes(width);
-    let a = at.0;
-    if !is_inside(s.len(), at, n) {
-        return NumberRead::Refused(Refusal::Short);
+    if !is_inside(s.len(), at, width.bytes()) {
+        return Err(Refusal::Short);
     }
-    NumberRead::Read(inner::num_at(s, a, n))
+    Ok(match width {
+        Width::Two => u64::from(u16::get(s, at.0)),
+        Width::Four => u64::from(u32::get(s, at.0)),
+        Width::Eight => u64::get(s, at.0),
+    })
 }
 
 // Stores a number in the bytes at a place, least byte first: 2.
-pub fn store_number(s: &mut [u8], at: BytePlace, x: Number) -> Stored
-    ensures { Ends (number_stored s.old at.0 (bytes_in x) (value_in x)) (stored_means result) s.new }
+#[tactic(auto, unfolding(crate::specs::Numbers::number_stored, crate::specs::Places::inside))]
+pub fn store_number(s: &mut [u8], at: BytePlace, x: Number) -> Result<usize, Refusal>
+    ensures { Ends (number_stored s.old at.0 (bytes_in x) (value_in x)) (means result) s.new }
 {
-    let n = inner::number_bytes(x);
-    let v = inner::number_value(x);
-    let a = at.0;
-    if !is_inside(s.len(), at, n) {
-        return Stored::Refused(Refusal::Short);
+    if !is_inside(s.len(), at, x.bytes()) {
+        return Err(Refusal::Short);
     }
-    inner::put_num(s, a, n, v);
-    Stored::Bytes(n)
+    match x {
+        Number::Two(v) => v.put(s, at.0),
+        Number::Four(v) => v.put(s, at.0),
+        Number::Eight(v) => v.put(s, at.0),
+    }
+    Ok(x.bytes())
 }
 
 // The last eight bytes of a GUID, in their order.
 #[repr(C)]
-#[derive(Clone, Copy)]
+#[derive(Clone, Copy, Debug, PartialEq, Eq)]
 pub struct Tail(
     pub u8,
     pub u8,
@@ -340,7 +308,7 @@ pub struct Tail(
 
 // A GUID by its fields (UEFI 2.10, appendix A).
 #[repr(C)]
-#[derive(Clone, Copy)]
+#[derive(Clone, Copy, Debug, PartialEq, Eq)]
 pub struct Guid {
     pub time_low: u32,
     pub time_mid: u16,
@@ -371,31 +339,25 @@ impl Guid {
     }
 }
 
-#[derive(Clone, Copy)]
-pub enum GuidRead {
-    Read(Guid),
-    Refused(Refusal),
-}
-
 // The GUID in the sixteen bytes at a place: 2.
-pub fn read_guid(s: &[u8], at: BytePlace) -> GuidRead
-    ensures { guid_means result ≡ guid_read s.now at.0 }
+pub fn read_guid(s: &[u8], at: BytePlace) -> Result<Guid, Refusal>
+    ensures { means result ≡ guid_read s.now at.0 }
 {
     let a = at.0;
     if !is_inside(s.len(), at, 16) {
-        return GuidRead::Refused(Refusal::Short);
+        return Err(Refusal::Short);
     }
-    GuidRead::Read(inner::guid_at(s, a))
+    Ok(inner::guid_at(s, a))
 }
 
 // Stores a GUID in the sixteen bytes at a place: 2.
-pub fn store_guid(s: &mut [u8], at: BytePlace, g: Guid) -> Stored
-    ensures { Ends (guid_stored s.old at.0 g) (stored_means result) s.new }
+pub fn store_guid(s: &mut [u8], at: BytePlace, g: Guid) -> Result<usize, Refusal>
+    ensures { Ends (guid_stored s.old at.0 g) (means result) s.new }
 {
     let a = at.0;
     if !is_inside(s.len(), at, 16) {
-        return Stored::Refused(Refusal::Short);
+        return Err(Refusal::Short);
     }
     inner::put_guid(s, a, g);
-    Stored::Bytes(16)
+    Ok(16)
 }

@@ -3,7 +3,7 @@ ghost use Rattle.std.specs.Prelude.{◌≡◌};
 ghost use Rattle.units.specs.Refusals.{refusal_of, later_refusal, reason_of};
 ghost use Rattle.units.specs.Meanings.{verdict_of};
 
-use crate::{CardVerdict, Place, Reason, Refusal, Slot};
+use crate::{Place, Reason, Refusal, Slot};
 
 // The number of documents 01 and 02, 0 where nothing refuses; the slot that 22 or 25 names, else slot 0; the place that the card check names, else none.
 #[derive(Clone, Copy)]
@@ -168,13 +168,13 @@ impl Why {
     }
 
     // The verdict by its name.
-    pub fn verdict(self) -> CardVerdict
+    pub fn verdict(self) -> Result<(), Reason>
         ensures { result ≡ verdict_of self }
     {
         let n = self.number;
         if n == 0 {
-            return CardVerdict::Accepted;
+            return Ok(());
         }
-        CardVerdict::Refused(self.reason())
+        Err(self.reason())
     }
 }

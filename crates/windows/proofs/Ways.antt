@@ -8,6 +8,7 @@ use native.Mathlib.Omega.{arith}
 use borrow.Author.Tests.{eqb-true, eqb-false, le-leb, lt-leb}
 use lib.Dec.{eqb, leb}
 use lib.ListN.{length}
+use Rattle.std.specs.Prelude.{Result, Ok, Err}
 use Rattle.units.specs.declared.why.Why.{Why}
 use Rattle.units.specs.declared.Reason.{Reason}
 use Rattle.units.specs.declared.Refusal.TheVariants.{BadBlockSize, Overflow, WindowLength}
@@ -97,6 +98,38 @@ if-zero (suc k) a b e = absurd (omega arith)
 pub if-not : {X : Type 0} (k : ℕ) (a b : X) → (k ≡ 0 → ⊥) → if_zero k a b ≡ b
 if-not zero a b d = absurd (d refl)
 if-not (suc k) a b d = refl
+
+-- a verdict that `?` passes, and one that it hands on
+told : Result Unit Reason → ℕ
+told (Ok x) = 0
+told (Err r) = 1
+
+reason_in : Reason → Result Unit Reason → Reason
+reason_in s (Ok x) = s
+reason_in s (Err r) = r
+
+abbrev told_by : ℕ → Why → Result Unit Reason
+told_by n f = if_zero {X = Result Unit Reason} n (Ok tt) (Err (reason_of f))
+
+passed-at : (f : Why) (n : ℕ) → told_by 0 f ≡ told_by n f → n ≡ 0
+unfolding told
+passed-at f zero q = refl
+passed-at f (suc n) q = let z : ◌≡◌ {A = ℕ} 0 1 = ap told q in absurd (omega arith)
+
+pub verdict-passed : (f : Why) → Ok tt ≡ verdict_of f → f.number ≡ 0
+unfolding verdict_of
+verdict-passed f e = passed-at f f.number e
+
+pub verdict-wrong : (f : Why) {r : Reason} → Err r ≡ verdict_of f → f.number ≡ 0 → ⊥
+unfolding verdict_of told
+verdict-wrong f {r} e z =
+    let q : Err r ≡ Ok tt = e ∙ ap (λ (n : ℕ). if_zero n (Ok tt) (Err (reason_of f))) z in
+    let y : ◌≡◌ {A = ℕ} 1 0 = ap told q in
+    absurd (omega arith)
+
+pub verdict-reason : (f : Why) {r : Reason} → Err r ≡ verdict_of f → r ≡ reason_of f
+unfolding verdict_of reason_in
+verdict-reason f {r} e = ap (reason_in r) (e ∙ if-not f.number (Ok tt) (Err (reason_of f)) (verdict-wrong f e))
 
 else-assoc : (a b c : Why) → or_else (or_else a b) c ≡ or_else a (or_else b c)
 unfolding or_else

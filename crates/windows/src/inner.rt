@@ -4,7 +4,6 @@ ghost use Rattle.std.specs.Prelude.{◌≡◌, false, ℕ, ◌+◌, ◌*◌, ◌
 ghost use Rattle.std.proofs.lemmas.List.Edits.{sets};
 ghost use Rattle.units.specs.Answer.{plain, if_zero};
 ghost use Rattle.units.specs.Guids.{guid_bytes};
-ghost use Rattle.crc32.specs.Rows.{Rows};
 ghost use Rattle.tables.specs.Places.{blocks};
 ghost use Rattle.tables.specs.Lens.{Front, Back, Tables, copy_bytes};
 ghost use Rattle.tables.specs.Entries.{zeros};
@@ -71,8 +70,7 @@ pub fn by_number(number: u32) -> Why
 }
 
 // The card check of windows, after their own numbers.
-pub fn check_in<'a>(t: &'a [u32; 4096], head: &'a [u8], tail: &'a [u8], blocks: u64, b: u64) -> Why
-    requires { Rows 16 t.now }
+pub fn check_in(head: &[u8], tail: &[u8], blocks: u64, b: u64) -> Why
     ensures { result ≡ window_why b blocks head.now tail.now (check b) }
 {
     let wrong = window_check(head.len(), tail.len(), blocks, b);
@@ -82,22 +80,14 @@ pub fn check_in<'a>(t: &'a [u32; 4096], head: &'a [u8], tail: &'a [u8], blocks: 
     let size = b as usize;
     let len = (blocks * b) as usize;
     let front = &head[size..size + (size + 16384)];
-    checking::inner::copies_check(t, front, tail, len, b)
+    checking::inner::copies_check(front, tail, len, b)
 }
 
 // 18 (bad slot) after the check: the tests of a call on one slot.
-pub fn slot_check_in<'a>(
-    t: &'a [u32; 4096],
-    head: &'a [u8],
-    tail: &'a [u8],
-    blocks: u64,
-    b: u64,
-    slot: Slot,
-) -> Why
-    requires { Rows 16 t.now }
+pub fn slot_check_in(head: &[u8], tail: &[u8], blocks: u64, b: u64, slot: Slot) -> Why
     ensures { result ≡ window_why b blocks head.now tail.now (λ (n : ℕ) (f : Tables). slot_check b n f slot.0) }
 {
-    let found = check_in(t, head, tail, blocks, b);
+    let found = check_in(head, tail, blocks, b);
     if found.number != 0 {
         return found;
     }
@@ -108,20 +98,19 @@ pub fn slot_check_in<'a>(
 }
 
 // All that put tests, of windows.
-pub fn put_check_in<'a>(
-    t: &'a [u32; 4096],
-    head: &'a [u8],
-    tail: &'a [u8],
+pub fn put_check_in(
+    head: &[u8],
+    tail: &[u8],
     blocks: u64,
     b: u64,
     slot: Slot,
-    e: &'a [u8],
+    e: &[u8],
     reserved: u64,
 ) -> Why
-    requires { Rows 16 t.now × (length e.now ≡ 128) }
+    requires { length e.now ≡ 128 }
     ensures { result ≡ window_why b blocks head.now tail.now (λ (n : ℕ) (f : Tables). put_check b n f slot.0 e.now reserved) }
 {
-    let found = check_in(t, head, tail, blocks, b);
+    let found = check_in(head, tail, blocks, b);
     if found.number != 0 {
         return found;
     }
@@ -132,26 +121,17 @@ pub fn put_check_in<'a>(
 }
 
 // The whole change of windows that the check accepts, the tail first.
-pub fn change<'a>(
-    t: &'a [u32; 4096],
-    head: &mut [u8],
-    tail: &mut [u8],
-    len: usize,
-    b: u64,
-    slot: Slot,
-    e: &'a [u8],
-)
-    requires rows { Rows 16 t.now }
+pub fn change(head: &mut [u8], tail: &mut [u8], len: usize, b: u64, slot: Slot, e: &[u8])
     requires head_len { (length head.old ≡ head_long b) × (length tail.old ≡ tail_long b) × ((check b len (window_tables b head.old tail.old)).number ≡ 0) }
     requires slot_value { (bad_slot slot.0 ≡ false) × (length e.now ≡ 128) }
     ensures head_after { head.new ≡ sets head.old b (copy_bytes Front (changed_in b len head.old tail.old slot.0 e.now).front) }
     ensures tail_after { tail.new ≡ copy_bytes Back (changed_in b len head.old tail.old slot.0 e.now).back }
 {
     let guid = card::changing::front_guid(head, b);
-    let parts = card::changing::front_sum(t, head, len, b, slot, e);
-    card::changing::change_copy(t, tail, len, b, true, slot, e, guid, parts);
+    let parts = card::changing::front_sum(head, len, b, slot, e);
+    card::changing::change_copy(tail, len, b, true, slot, e, guid, parts);
     let front = BytePlace(b as usize);
-    card::changing::change_at(t, head, front, len, b, false, slot, e, guid, parts);
+    card::changing::change_at(head, front, len, b, false, slot, e, guid, parts);
 }
 
 // All that lay stores, in windows: the protective MBR in block 0, and both tables.
@@ -160,8 +140,7 @@ pub fn lay_in(head: &mut [u8], tail: &mut [u8], len: usize, b: u64, guid: Guid)
     ensures head_after { head.new ≡ sets (sets head.old 0 (mbr (blocks b len - 1))) b (copy_bytes Front (card_of b len (guid_bytes guid) (zeros 16384)).front) }
     ensures tail_after { tail.new ≡ copy_bytes Back (card_of b len (guid_bytes guid) (zeros 16384)).back }
 {
-    let t = crc32::inner::table();
     card::laying::put_mbr(head, tables::inner::own_block(len, b, true));
-    card::laying::lay_copy(&t, tail, len, b, true, guid);
-    card::laying::lay_at(&t, head, BytePlace(b as usize), len, b, false, guid);
+    card::laying::lay_copy(tail, len, b, true, guid);
+    card::laying::lay_at(head, BytePlace(b as usize), len, b, false, guid);
 }

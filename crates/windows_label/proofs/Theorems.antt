@@ -11,10 +11,10 @@ use borrow.Author.Tests.{eqb-true, eqb-false, eq-eqb, ne_eqb, ltb-true, ltb-fals
 use lib.Dec.{eqb, ltb}
 use lib.ListN.{length, take, drop, length-append, length-drop}
 use lib.Seq.{take-append-le, drop-append-le, drop-append-add}
+use Rattle.std.specs.Prelude.{None}
 use Rattle.units.specs.Answer.{pick}
 use Rattle.units.specs.Bytes.{part}
 use Rattle.tables.proofs.Orders.{by-test}
-use Rattle.label.specs.declared.inner.Agreed.TheVariants as agreed
 use Rattle.label.specs.Judging.{Shown, judge_from}
 use Rattle.label.proofs.SetLaws.{again}
 use Rattle.windows_label.specs.Handed.{handed_label, first_place, handed_from, handed_set}
@@ -128,15 +128,15 @@ module _ (B N : ℕ) (head tail before after : List ℕ) (s : ℕ) (m : Memᴰ s
       (λ e. let h = eqb-true (length (ks ++ ms)) (13 * length (before ++ after)) e in eq-eqb (length (ks ++ (l ++ ms))) (13 * length (before ++ (s ∷ after))) (omega (arith, a, b, c, x, y, h, q)) ∙ sym e)
       (λ e. let h = eqb-false (length (ks ++ ms)) (13 * length (before ++ after)) e in ne_eqb (length (ks ++ (l ++ ms))) (13 * length (before ++ (s ∷ after))) (λ z. h (omega (arith, a, b, c, x, y, z, q))) ∙ sym e)
 
-  judged-same : judge_from agreed.Nothing (handed_from B N head tail (before ++ (s ∷ after)) (ks ++ (l ++ ms)) (before ++ (s ∷ after)))
-      ≡ judge_from agreed.Nothing (handed_from B N head tail (before ++ after) (ks ++ ms) (before ++ after))
+  judged-same : judge_from None (handed_from B N head tail (before ++ (s ∷ after)) (ks ++ (l ++ ms)) (before ++ (s ∷ after)))
+      ≡ judge_from None (handed_from B N head tail (before ++ after) (ks ++ ms) (before ++ after))
   unfolding handed_from
   judged-same =
       let all = before ++ (s ∷ after) in
       let ls = ks ++ (l ++ ms) in
-      ap (λ (r : List Shown). judge_from agreed.Nothing r) (handed-append B N head tail all ls before (s ∷ after))
-      ∙ again agreed.Nothing (handed_from B N head tail all ls before) (handed_from B N head tail all ls after) (handed B N head tail all ls s) (handed-mem B N head tail all ls before m)
-      ∙ ap (λ (r : List Shown). judge_from agreed.Nothing r) (sym (handed-append B N head tail all ls before after) ∙ handed-same B N head tail all ls (before ++ after) (ks ++ ms) same_bytes (before ++ after))
+      ap (λ (r : List Shown). judge_from None r) (handed-append B N head tail all ls before (s ∷ after))
+      ∙ again None (handed_from B N head tail all ls before) (handed_from B N head tail all ls after) (handed B N head tail all ls s) (handed-mem B N head tail all ls before m)
+      ∙ ap (λ (r : List Shown). judge_from None r) (sym (handed-append B N head tail all ls before after) ∙ handed-same B N head tail all ls (before ++ after) (ks ++ ms) same_bytes (before ++ after))
 
   -- A slot that was named before can be left out with its 13 bytes, whatever they are, of any list, accepted or refused: it is judged as one.
   pub handed-as-one : handed_set B N head tail (before ++ (s ∷ after)) (ks ++ (l ++ ms)) ≡ handed_set B N head tail (before ++ after) (ks ++ ms)

@@ -9,6 +9,7 @@ use borrow.Author.Tests.{eqb-true, eqb-false, eq-eqb, ne_eqb}
 use lib.Dec.{eqb}
 use lib.ListN.{length, take, drop, get_or, drop_of_length-le}
 use lib.Seq.{drop-cons}
+use Rattle.std.specs.Prelude.{Option, Some, None}
 use Rattle.units.specs.declared.BytePlace.{BytePlace}
 use Rattle.units.specs.declared.why.Why.{Why}
 use Rattle.units.specs.Answer.{Answer, accepted, refused, plain, and_then}
@@ -20,8 +21,6 @@ use Rattle.tables.proofs.Orders.{by-test}
 use Rattle.card.specs.Calls.{place_answer}
 use Rattle.label.specs.declared.Label.{Label}
 use Rattle.label.specs.declared.Dated.{Dated}
-use Rattle.label.specs.declared.inner.Agreed.{Agreed}
-use Rattle.label.specs.declared.inner.Agreed.TheVariants as agreed
 use Rattle.label.specs.Labels.{label_in}
 use Rattle.label.specs.Judging.{SetAnswer, refused_at, step_answer, at_end, judge_from}
 use Rattle.windows.specs.Windows.{window_answer}
@@ -38,18 +37,18 @@ thirteen-each n m z =
     (λ e. let q = eqb-true (n / 13) m e in e ∙ sym (eq-eqb n (13 * m) (omega arith)))
     (λ e. let q = eqb-false (n / 13) m e in e ∙ sym (ne_eqb n (13 * m) (λ z. q (omega arith))))
 
+pub ruleset thirteens = (thirteen-ragged, thirteen-each)
+
 -- ---- one label
 
-module _ (B N : ℕ) (head tail : List ℕ) (s : ℕ) (ls : List ℕ) {a : Answer BytePlace} (e : a ≡ window_answer B N head tail (λ (xs : List ℕ). place_answer B xs s 0 13)) where
-  answered : handed_label B N head tail s ls ≡ and_then a (λ (p : BytePlace). label_in ls)
+module _ (B N : ℕ) (head tail : List ℕ) (s : ℕ) (ls : List ℕ) where
+  pub handed-refused : {w : Why} → refused w ≡ window_answer B N head tail (λ (xs : List ℕ). place_answer B xs s 0 13) → refused w ≡ handed_label B N head tail s ls
   unfolding handed_label
-  answered = ap (λ (x : Answer BytePlace). and_then x (λ (p : BytePlace). label_in ls)) (sym e)
+  handed-refused e = ap (λ (x : Answer BytePlace). and_then x (λ (p : BytePlace). label_in ls)) e
 
-  pub handed-refused : {w : Why} → a ≡ refused w → refused w ≡ handed_label B N head tail s ls
-  handed-refused q = sym (answered ∙ ap (λ (x : Answer BytePlace). and_then x (λ (p : BytePlace). label_in ls)) q)
-
-  pub handed-read : {p : BytePlace} {r : Answer Label} → a ≡ accepted p → r ≡ label_in ls → r ≡ handed_label B N head tail s ls
-  handed-read q h = h ∙ sym (answered ∙ ap (λ (x : Answer BytePlace). and_then x (λ (p : BytePlace). label_in ls)) q)
+  pub handed-read : {p : BytePlace} {r : Answer Label} → accepted p ≡ window_answer B N head tail (λ (xs : List ℕ). place_answer B xs s 0 13) → r ≡ label_in ls → r ≡ handed_label B N head tail s ls
+  unfolding handed_label
+  handed-read e h = h ∙ ap (λ (x : Answer BytePlace). and_then x (λ (p : BytePlace). label_in ls)) e
 
 -- ---- the first place of a slot
 
@@ -89,18 +88,18 @@ module _ (B N : ℕ) (head tail all ls ss : List ℕ) (i : ℕ) where
   handed-step h = let e : i + 1 ≡ suc i = omega arith in rw (drop-cons ss i 0 h, e)
 
   -- a slot that agrees: the rest of the list, held against its first date
-  pub judge-next : i < length ss → (a : Agreed) {d : Dated} → step_answer a (handed_label B N head tail (get_or ss i 0) (part ls (13 * first_place all (get_or ss i 0)) 13)) ≡ accepted d
-      → judge_from (agreed.On d) (handed_from B N head tail all ls (drop (i + 1) ss)) ≡ judge_from a (handed_from B N head tail all ls (drop i ss))
+  pub judge-next : i < length ss → (a : Option Dated) {d : Dated} → step_answer a (handed_label B N head tail (get_or ss i 0) (part ls (13 * first_place all (get_or ss i 0)) 13)) ≡ accepted d
+      → judge_from (Some d) (handed_from B N head tail all ls (drop (i + 1) ss)) ≡ judge_from a (handed_from B N head tail all ls (drop i ss))
   unfolding judge_from
   judge-next h a e = rw (handed-step h, e)
 
   -- one that is refused: the end
-  pub judge-stop : i < length ss → (a : Agreed) {w : Why} → step_answer a (handed_label B N head tail (get_or ss i 0) (part ls (13 * first_place all (get_or ss i 0)) 13)) ≡ refused w
+  pub judge-stop : i < length ss → (a : Option Dated) {w : Why} → step_answer a (handed_label B N head tail (get_or ss i 0) (part ls (13 * first_place all (get_or ss i 0)) 13)) ≡ refused w
       → refused_at w (get_or ss i 0) ≡ judge_from a (handed_from B N head tail all ls (drop i ss))
   unfolding judge_from
   judge-stop h a e = rw (handed-step h, e)
 
-  pub judge-end : length ss ≤ i → (a : Agreed) → at_end a ≡ judge_from a (handed_from B N head tail all ls (drop i ss))
+  pub judge-end : length ss ≤ i → (a : Option Dated) → at_end a ≡ judge_from a (handed_from B N head tail all ls (drop i ss))
   unfolding judge_from handed_from
   judge-end h a = rw (drop_of_length-le ss h)
 
@@ -116,16 +115,16 @@ module _ (B N : ℕ) (head tail ss ls : List ℕ) where
     unfolding handed_set
     set-38 e = rw (g, e)
 
-    module _ (e : eqb (length ss) 0 ≡ false) {a : Answer Unit} (q : a ≡ window_answer B N head tail (check_answer B)) where
-      pub set-refused : {w : Why} → a ≡ refused w → refused_at w 0 ≡ handed_set B N head tail ss ls
+    module _ (e : eqb (length ss) 0 ≡ false) where
+      pub set-refused : {w : Why} → refused w ≡ window_answer B N head tail (check_answer B) → refused_at w 0 ≡ handed_set B N head tail ss ls
       unfolding handed_set
-      set-refused r = rw (g, e, sym q, r)
+      set-refused r = rw (g, e, sym r)
 
-      module _ (r : a ≡ accepted tt) where
+      module _ (r : accepted tt ≡ window_answer B N head tail (check_answer B)) where
         pub set-2 : eqb (length ls) (13 * length ss) ≡ false → refused_at (plain 2) 0 ≡ handed_set B N head tail ss ls
         unfolding handed_set
-        set-2 h = rw (g, e, sym q, r, h)
+        set-2 h = rw (g, e, sym r, h)
 
-        pub set-judged : eqb (length ls) (13 * length ss) ≡ true → {x : SetAnswer} → x ≡ judge_from agreed.Nothing (handed_from B N head tail ss ls ss) → x ≡ handed_set B N head tail ss ls
+        pub set-judged : eqb (length ls) (13 * length ss) ≡ true → {x : SetAnswer} → x ≡ judge_from None (handed_from B N head tail ss ls ss) → x ≡ handed_set B N head tail ss ls
         unfolding handed_set
-        set-judged h p = rw (g, e, sym q, r, h) p
+        set-judged h p = rw (g, e, sym r, h) p

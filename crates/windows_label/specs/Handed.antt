@@ -1,7 +1,7 @@
 -- Labels and sets of a card by two windows. The maps are in no window, so the caller hands in the 13 bytes of each slot's label; whether the slot is one of the card's and used is said by the windows.
 -- From document 02, 13/13 and 10/13: reading one label, the windows' numbers and the card check's, 18, 23, 2 if fewer than 13 bytes are handed in, 34, 35, 36; a set, 1, 38, the windows', the check's, 2 if not 13 bytes
 -- a slot are handed in, and then slot by slot as on an image. "A repeated slot is judged as one" (document 02, 13/13): by the label at its first place in the list. Assumes nothing.
-use Rattle.std.specs.Prelude.{not, List, [], ◌∷◌, ℕ, suc, ◌*◌, eqb, length}
+use Rattle.std.specs.Prelude.{None, not, List, [], ◌∷◌, ℕ, suc, ◌*◌, eqb, length}
 use Rattle.units.specs.declared.BytePlace.{BytePlace}
 use Rattle.units.specs.Answer.{Answer, accepted, refused, plain, pick, and_then}
 use Rattle.units.specs.Bytes.{part}
@@ -9,7 +9,6 @@ use Rattle.units.specs.Places.{good_size}
 use Rattle.tables.specs.Check.{check_answer}
 use Rattle.card.specs.Calls.{place_answer}
 use Rattle.label.specs.declared.Label.{Label}
-use Rattle.label.specs.declared.inner.Agreed.TheVariants as agreed
 use Rattle.label.specs.Labels.{label_in}
 use Rattle.label.specs.Judging.{Shown, SetAnswer, refused_at, judge_from}
 use Rattle.windows.specs.Windows.{window_answer}
@@ -40,4 +39,4 @@ handed_set B N head tail ss ls =
     (pick (eqb (length ss) 0) (refused_at (plain 38) 0)
     (after_check (window_answer B N head tail (check_answer B))
     (pick (not (eqb (length ls) (13 * length ss))) (refused_at (plain 2) 0)
-    (judge_from agreed.Nothing (handed_from B N head tail ss ls ss)))))
+    (judge_from None (handed_from B N head tail ss ls ss)))))

@@ -4,13 +4,13 @@
 
 pub mod inner; // inner.rt: the slots of a set in their order
 
+ghost use Rattle.units.specs.Meanings.{card_means};
 ghost use Rattle.std.specs.Prelude.{◌≡◌};
-ghost use Rattle.label.specs.Meanings.{label_means, judged_means};
+ghost use Rattle.label.specs.Meanings.{judged_means};
 ghost use Rattle.windows_label.specs.Handed.{handed_label, handed_set};
 
-use card::payload::Spot;
-use label::{Judged, LabelRead};
-use units::{BytePlace, CardVerdict, Place, Reason, Refusal, Slot};
+use label::{Dated, Label, SetRefusal};
+use units::{BytePlace, Place, Reason, Refusal, Slot};
 
 // The label of a slot, whose bytes are handed in, those after the 13th not looked at: 1, 3, 8, 10, 32, the card check's, 18 no such slot, 23 unused, 2 fewer than 13 bytes, 34, 35, 36.
 pub fn read_label<'a>(
@@ -20,13 +20,11 @@ pub fn read_label<'a>(
     b: u64,
     slot: Slot,
     bytes: &'a [u8],
-) -> LabelRead
-    ensures { label_means result ≡ handed_label b blocks head.now tail.now slot.0 bytes.now }
+) -> Result<Label, Reason>
+    ensures { card_means result ≡ handed_label b blocks head.now tail.now slot.0 bytes.now }
 {
-    match windows_listing::payload_place(head, tail, blocks, b, slot, BytePlace(0), 13) {
-        Spot::Refused(w) => LabelRead::Refused(w),
-        Spot::At(_at) => label::label_in(bytes),
-    }
+    windows_listing::payload_place(head, tail, blocks, b, slot, BytePlace(0), 13)?;
+    label::label_in(bytes)
 }
 
 // Whether all slots of a list have one date and one style revision, by labels that are handed in, 13 bytes a slot in the list's order: 1, 38 an empty list, 3, 8, 10, 32, the card check's, 2 not
@@ -38,29 +36,29 @@ pub fn judge<'a>(
     b: u64,
     slots: &'a [u32],
     labels: &'a [u8],
-) -> Judged
+) -> Result<Dated, SetRefusal>
     ensures { judged_means result ≡ handed_set b blocks head.now tail.now slots.now labels.now }
 {
     if !units::good_block_size(b) {
-        return label::judging::no_slot(Reason {
+        return Err(label::judging::no_slot(Reason {
             what: Refusal::BadBlockSize,
             place: Place::Nowhere,
-        });
+        }));
     }
     if slots.len() == 0 {
-        return label::judging::no_slot(Reason {
+        return Err(label::judging::no_slot(Reason {
             what: Refusal::EmptyList,
             place: Place::Nowhere,
-        });
+        }));
     }
     match windows::check(head, tail, blocks, b) {
-        CardVerdict::Refused(w) => label::judging::no_slot(w),
-        CardVerdict::Accepted => {
+        Err(w) => Err(label::judging::no_slot(w)),
+        Ok(()) => {
             if !inner::thirteen_each(labels.len(), slots.len()) {
-                return label::judging::no_slot(Reason {
+                return Err(label::judging::no_slot(Reason {
                     what: Refusal::Short,
                     place: Place::Nowhere,
-                });
+                }));
             }
             inner::judge_handed(head, tail, blocks, b, slots, labels)
         }

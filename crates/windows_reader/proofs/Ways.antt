@@ -1,20 +1,18 @@
 -- The ways out of the reader of windows, one law for each: what the choice told, and what the whole image then gives. No contract cites this file. Assumes nothing.
 use mathlib.Core.Path.{◌≡◌, refl, sym, ap, ◌∙◌}
 use mathlib.Core.Bool.{Bool, true, false}
-use mathlib.Core.List.{List, [], ◌∷◌}
+use mathlib.Core.List.{List}
 use Prim.Native.Nat.{ℕ, ◌+◌, ◌*◌, ◌-◌}
 use native.Mathlib.Omega.{arith}
 use lib.ListN.{length, take}
 use Rattle.units.specs.declared.why.Why.{Why}
 use Rattle.units.specs.declared.Refusal.{Refusal}
-use Rattle.units.specs.Answer.{accepted, refused, plain, when, Beside, beside, judged}
+use Rattle.units.specs.Answer.{accepted, refused, plain, when, judged}
 use Rattle.units.specs.Bytes.{part}
 use Rattle.units.specs.Refusals.{why, refusal_of, refused_by}
 use Rattle.units.proofs.Chains.{number-of, found, past, last, none, Bare, bare-else}
 use Rattle.units.proofs.Lists.{length_part, part-part}
-use Rattle.partition.specs.Format.{zero_partition}
-use Rattle.partition.specs.Array.{Found, reading_of, first_slot, present_from}
-use Rattle.partition.proofs.Laws.{next-none, next-some}
+use Rattle.partition.specs.Array.{Found, present_from}
 use Rattle.rows.specs.declared.inner.Plan.{Plan}
 use Rattle.rows.specs.Row.{present_entries}
 use Rattle.rows.specs.Plans.{Made, planned, no_plan, nowhere}
@@ -74,12 +72,11 @@ module _ (B N : ℕ) (head tail : List ℕ) where
     abbrev held : ℕ → ℕ → Tables → Found
     held s n t = held_in (taken_array B n t) s
 
-    pub read-refused : (s : ℕ) {r : Refusal} → (f ≡ 0 → ⊥) → r ≡ refusal_of (plain f)
-        → record { verdict = refused_by r; value = record { present = false; partition = zero_partition } } ≡ reading_of (window_answer B N head tail (λ xs. reader_slot B xs s))
-    unfolding beside reader_slot_check
+    pub read-refused : (s : ℕ) {r : Refusal} → (f ≡ 0 → ⊥) → r ≡ refusal_of (plain f) → refused_by r ≡ window_answer B N head tail (λ xs. reader_slot B xs s)
+    unfolding reader_slot_check
     read-refused s d q =
-        ap (λ (w : Why). reading_of (refused w)) (why-is d q)
-        ∙ ap reading_of (asks-refused B N head tail (λ (n : ℕ) (t : Tables). reader_slot_check B n t s) (held s) (then_found B N head tail (reader_check B) (slots s) refl (not-zero d)) (not-zero d))
+        ap refused (why-is d q)
+        ∙ asks-refused B N head tail (λ (n : ℕ) (t : Tables). reader_slot_check B n t s) (held s) (then_found B N head tail (reader_check B) (slots s) refl (not-zero d)) (not-zero d)
 
     -- accepted
     module _ (z : f ≡ 0) where
@@ -99,21 +96,16 @@ module _ (B N : ℕ) (head tail : List ℕ) where
         good-part = ap (λ (b : Bool). array_of B (side_of b) head tail) k ∙ sym (if-zero R.number _ _ (sym e ∙ z))
 
         module _ {arr : List ℕ} (l : arr ≡ array_of B (side_of back) head tail) where
-          pub next-over : (after : ℕ) {s : ℕ} → s ≡ first_slot arr 0 128 after → s ≡ 0 → accepted [] ≡ window_answer B N head tail (λ xs. reader_next B xs after)
-          next-over after {s} q y =
+          pub next-given : (after : ℕ) {s : List ℕ} → s ≡ take 1 (present_from arr 0 after (128 - after)) → accepted s ≡ window_answer B N head tail (λ xs. reader_next B xs after)
+          next-given after q =
               accepts (λ (n : ℕ) (t : Tables). take 1 (present_from (taken_array B n t) 0 after (128 - after)))
-              (sym (ap (λ (a : List ℕ). take 1 (present_from a 0 after (128 - after))) (sym (l ∙ taken)) ∙ next-none arr 0 128 after (sym q ∙ y)))
+              (q ∙ ap (λ (a : List ℕ). take 1 (present_from a 0 after (128 - after))) (l ∙ taken))
 
-          pub next-given : (after : ℕ) {s : ℕ} → s ≡ first_slot arr 0 128 after → (s ≡ 0 → ⊥) → accepted (s ∷ []) ≡ window_answer B N head tail (λ xs. reader_next B xs after)
-          next-given after {s} q y =
-              accepts (λ (n : ℕ) (t : Tables). take 1 (present_from (taken_array B n t) 0 after (128 - after)))
-              (sym (ap (λ (a : List ℕ). take 1 (present_from a 0 after (128 - after))) (sym (l ∙ taken)) ∙ next-some arr 0 128 after (λ x. y (q ∙ x)) ∙ ap (λ (i : ℕ). i ∷ []) (sym q)))
-
-          pub read-given : (s : ℕ) {t : Bool} {v : Beside Found} → t ≡ bad_slot s → t ≡ false → v ≡ reading_of (accepted (held_in arr s)) → v ≡ reading_of (window_answer B N head tail (λ xs. reader_slot B xs s))
+          pub read-given : (s : ℕ) {t : Bool} {v : Found} → t ≡ bad_slot s → t ≡ false → v ≡ held_in arr s → accepted v ≡ window_answer B N head tail (λ xs. reader_slot B xs s)
           unfolding reader_slot_check
           read-given s q h v =
-              v ∙ ap (λ (a : List ℕ). reading_of (accepted (held_in a s))) (l ∙ taken)
-              ∙ ap reading_of (asks-given B N head tail (λ (n : ℕ) (t : Tables). reader_slot_check B n t s) (held s) (then-passed B N head tail (reader_check B) (slots s) refl (sym e ∙ z) (none (plain 18) (sym q ∙ h))) refl)
+              ap accepted (v ∙ ap (λ (a : List ℕ). held_in a s) (l ∙ taken))
+              ∙ asks-given B N head tail (λ (n : ℕ) (t : Tables). reader_slot_check B n t s) (held s) (then-passed B N head tail (reader_check B) (slots s) refl (sym e ∙ z) (none (plain 18) (sym q ∙ h))) refl
 
           -- the plan of the list
           pub plan-listed : {p : Plan} → Made arr p × (planned arr p ≡ accepted (present_entries arr 0 128)) → Made (good_part B N head tail) p × (planned (good_part B N head tail) p ≡ window_answer B N head tail (reader_entries B))
@@ -121,11 +113,10 @@ module _ (B N : ℕ) (head tail : List ℕ) where
               let g : arr ≡ good_part B N head tail = l ∙ good-part in
               rw (← g) (m.0, m.1 ∙ accepts (λ (n : ℕ) (t : Tables). present_entries (taken_array B n t) 0 128) (ap (λ (a : List ℕ). present_entries a 0 128) (l ∙ taken)))
 
-      pub read-bad : (s : ℕ) {t : Bool} → t ≡ bad_slot s → t ≡ true
-          → record { verdict = refused (plain 18); value = record { present = false; partition = zero_partition } } ≡ reading_of (window_answer B N head tail (λ xs. reader_slot B xs s))
-      unfolding beside reader_slot_check
+      pub read-bad : (s : ℕ) {t : Bool} → t ≡ bad_slot s → t ≡ true → refused (plain 18) ≡ window_answer B N head tail (λ xs. reader_slot B xs s)
+      unfolding reader_slot_check
       read-bad s q t =
-          ap reading_of (asks-refused B N head tail (λ (n : ℕ) (t : Tables). reader_slot_check B n t s) (held s) (then-passed B N head tail (reader_check B) (slots s) refl (sym e ∙ z) (last (plain 18) (sym q ∙ t))) (λ y. omega arith))
+          asks-refused B N head tail (λ (n : ℕ) (t : Tables). reader_slot_check B n t s) (held s) (then-passed B N head tail (reader_check B) (slots s) refl (sym e ∙ z) (last (plain 18) (sym q ∙ t))) (λ y. omega arith)
 
     -- an empty part, and no plan
     pub no_part : (f ≡ 0 → ⊥) → part head 0 0 ≡ good_part B N head tail

@@ -21,10 +21,9 @@ pub fn choose_in<'a>(head: &'a [u8], tail: &'a [u8], blocks: u64, b: u64) -> Cho
             back: false,
         };
     }
-    let t = crc32::inner::table();
     let size = b as usize;
     let len = (blocks * b) as usize;
-    reader::inner::choose_copy(&t, &head[size..size + (size + 16384)], tail, len, b)
+    reader::inner::choose_copy(&head[size..size + (size + 16384)], tail, len, b)
 }
 
 // The array in a window: in the head after block 0 and the header's block, in the tail from its start.

@@ -4,32 +4,37 @@
 
 pub mod inner; // inner.rt: which of two windows passes, and where its array stands
 
+ghost use Rattle.units.specs.Meanings.{means};
 ghost use Rattle.std.specs.Prelude.{◌≡◌, List, ℕ, length};
-ghost use Rattle.partition.specs.Array.{reading_of};
-ghost use Rattle.partition.specs.Meanings.{count_means, next_means, read_means};
+ghost use Rattle.partition.specs.Meanings.{next_means, read_means};
 ghost use Rattle.rows.specs.Row.{row_outcome, RowEnds};
 ghost use Rattle.reader.specs.Reader.{side_answer, reader_count, reader_next, reader_slot};
 ghost use Rattle.reader.specs.Meanings.{copy_means};
 ghost use Rattle.windows.specs.Windows.{window_answer};
 ghost use Rattle.windows_reader.specs.Parts.{good_part, good_from, part_read};
 
-use partition::{NextPartition, PartitionCount, PartitionRead};
+use partition::Partition;
 use reader::GoodCopy;
 use rows::Entry;
 use units::{Refusal, Slot};
 
 // Which window has the table that the reader takes: 1, 3, 8, 10, 32, and 27 where neither passes.
-pub fn good_copy<'a>(head: &'a [u8], tail: &'a [u8], blocks: u64, b: u64) -> GoodCopy
+pub fn good_copy<'a>(
+    head: &'a [u8],
+    tail: &'a [u8],
+    blocks: u64,
+    b: u64,
+) -> Result<GoodCopy, Refusal>
     ensures { copy_means result ≡ window_answer b blocks head.now tail.now (side_answer b) }
 {
     let found = inner::choose_in(head, tail, blocks, b);
     if found.number != 0 {
-        return GoodCopy::Refused(found.refusal());
+        return Err(found.refusal());
     }
     if found.back {
-        return GoodCopy::Back;
+        return Ok(GoodCopy::Back);
     }
-    GoodCopy::Front
+    Ok(GoodCopy::Front)
 }
 
 // That table's array, 16,384 bytes of the head or of the tail, no copy made; an empty part of the head where `good_copy` refuses.
@@ -47,64 +52,60 @@ pub fn good_part<'a>(head: &'a [u8], tail: &'a [u8], blocks: u64, b: u64) -> &'a
 }
 
 // How many slots of that table are used: 1, 3, 8, 10, 32, 27.
-pub fn count_used<'a>(head: &'a [u8], tail: &'a [u8], blocks: u64, b: u64) -> PartitionCount
-    ensures { count_means result ≡ window_answer b blocks head.now tail.now (reader_count b) }
+pub fn count_used<'a>(head: &'a [u8], tail: &'a [u8], blocks: u64, b: u64) -> Result<u32, Refusal>
+    ensures { means result ≡ window_answer b blocks head.now tail.now (reader_count b) }
 {
     let found = inner::choose_in(head, tail, blocks, b);
     if found.number != 0 {
-        return PartitionCount::Refused(found.refusal());
+        return Err(found.refusal());
     }
     let array = inner::array_of(head, tail, b, found.back);
-    PartitionCount::Present(partition::inner::count_present(array, 0, 128))
+    Ok(partition::inner::count_present(array, 0, 128))
 }
 
-// The first used slot of that table after a slot, where slot 0 stands before the first: 1, 3, 8, 10, 32, 27.
+// The first used slot of that table after a slot, where slot 0 stands before the first, if there is one: 1, 3, 8, 10, 32, 27.
 pub fn next_used<'a>(
     head: &'a [u8],
     tail: &'a [u8],
     blocks: u64,
     b: u64,
     after: Slot,
-) -> NextPartition
+) -> Result<Option<Slot>, Refusal>
     ensures { next_means result ≡ window_answer b blocks head.now tail.now (λ (xs : List ℕ). reader_next b xs after.0) }
 {
     let found = inner::choose_in(head, tail, blocks, b);
     if found.number != 0 {
-        return NextPartition::Refused(found.refusal());
+        return Err(found.refusal());
     }
     let array = inner::array_of(head, tail, b, found.back);
-    let slot = partition::inner::next_present(array, 0, 128, after);
-    if slot.0 == 0 {
-        return NextPartition::NoMore;
-    }
-    NextPartition::At(slot)
+    Ok(partition::inner::next_present(array, 0, 128, after))
 }
 
-// What a slot of that table holds: 1, 3, 8, 10, 32, 27, then 18 (no such slot).
+// What a slot of that table holds, if its entry is present: 1, 3, 8, 10, 32, 27, then 18 (no such slot).
 pub fn read_slot<'a>(
     head: &'a [u8],
     tail: &'a [u8],
     blocks: u64,
     b: u64,
     slot: Slot,
-) -> PartitionRead
-    ensures { read_means result ≡ reading_of (window_answer b blocks head.now tail.now (λ (xs : List ℕ). reader_slot b xs slot.0)) }
+) -> Result<Option<Partition>, Refusal>
+    ensures { read_means result ≡ window_answer b blocks head.now tail.now (λ (xs : List ℕ). reader_slot b xs slot.0) }
 {
     let found = inner::choose_in(head, tail, blocks, b);
     if found.number != 0 {
-        return partition::inner::refused(found.refusal());
+        return Err(found.refusal());
     }
     if tables::inner::bad_slot(slot) {
-        return partition::inner::refused(Refusal::BadSlot);
+        return Err(Refusal::BadSlot);
     }
     let array = inner::array_of(head, tail, b, found.back);
-    reader::inner::slot_in(array, slot)
+    Ok(reader::inner::slot_in(array, slot))
 }
 
 // The used slots of a part that was handed back, with their records, ascending, into the first places of the row; the rest of the row stays, and the count is returned: 2 where the part is
 // shorter than an array, as an empty one is, and then 15.
-pub fn list_part(part: &[u8], row: &mut [Entry]) -> PartitionCount
-    ensures { RowEnds (row_outcome (part_read part.now (length row.old)) row.old) (count_means result) row.new }
+pub fn list_part(part: &[u8], row: &mut [Entry]) -> Result<u32, Refusal>
+    ensures { RowEnds (row_outcome (part_read part.now (length row.old)) row.old) (means result) row.new }
 {
     let p = inner::plan_of(part);
     let q = rows::inner::fill(part, p, row);

@@ -8,13 +8,14 @@ use borrow.Author.Tests.{ne_eqb, ltb-true, ltb-false}
 use lib.Dec.{eqb, ltb, leb}
 use lib.ListN.{length}
 use lib.Seq.{sets, length-sets}
+use Rattle.std.specs.Prelude.{Ok, Err}
 use Rattle.units.specs.declared.why.Why.{Why}
-use Rattle.units.specs.declared.CardVerdict.TheVariants as verdict
-use Rattle.units.specs.Answer.{Answer, accepted, refused, Outcome, gives, plain, pick, or_else, if_zero, beside}
+use Rattle.units.specs.declared.Reason.{Reason}
+use Rattle.units.specs.Answer.{Answer, accepted, refused, Outcome, gives, plain, pick, or_else, if_zero}
 use Rattle.units.specs.Bytes.{part}
 use Rattle.units.specs.Meanings.{verdict_of}
 use Rattle.units.specs.Places.{good_size}
-use Rattle.units.specs.Refusals.{why_at, reason_of}
+use Rattle.units.specs.Refusals.{why_at}
 use Rattle.units.proofs.Chains.{number-of, found, else-first, else-second, Bare, bare-else, Named, named-else, settle-accepted}
 use Rattle.units.proofs.Lists.{length_part, part-part}
 use Rattle.tables.specs.Places.{array_blocks, back_array}
@@ -27,20 +28,18 @@ use Rattle.tables.proofs.Good.{room-ok}
 use Rattle.reader.specs.Reader.{array_byte_place, takes_back}
 use Rattle.staged.specs.declared.Update.{Update}
 use Rattle.staged.specs.declared.Repair.{Repair}
-use Rattle.staged.specs.declared.RepairStep.TheVariants as repair
 use Rattle.staged.specs.Stages.{fixed}
 use Rattle.staged.specs.Repairs.{mended, repair_of}
 use Rattle.staged.specs.Stores.{copy_place, store_in, store_bytes, stage_store, header_store, zero_store, block_store, repair_store}
 use Rattle.staged.specs.Numbers.{leads, next_check, leads_repair, next_repair_check, onward, onward_repair, next_at, next_repair_at}
-use Rattle.staged.specs.Meanings.{update_means, zero_update, repair_means}
 use Rattle.staged.proofs.Places.{header-from, array-from, store-fits, stage_is, zeros-fit, header-fits, repair-block, repair-header, other-side, block_inside}
 use Rattle.staged.proofs.Ways.{named-next, bare-next, named-next-repair, bare-next-repair, next-26, next-repair-26, zeros-first}
 use Rattle.staged.proofs.Leads.{Leads, next-leads, LeadsRepair, repair-leads, leads-store}
-use Rattle.windows.specs.Windows.{head_long, tail_long, whole, window_tables, length_check, Windowed, in_windows, windowed_by, WindowEnds}
+use Rattle.windows.specs.Windows.{head_long, tail_long, whole, window_tables, length_check, in_windows, windowed_by, WindowEnds}
 use Rattle.windows.proofs.Whole.{Fits, long-by, length_whole, head-whole, tail-whole, store-head, store_tail}
-use Rattle.windows.proofs.Ways.{in_order, bare-length, named-length, told-verdict, at-whole, if-zero, if-not}
+use Rattle.windows.proofs.Ways.{in_order, bare-length, named-length, told-reason, verdict-passed, verdict-wrong, verdict-reason, at-whole, if-zero, if-not}
 use Rattle.windows_reader.specs.Parts.{array_of}
-use Rattle.windows_staged.specs.Stages.{next_why, next_repair_why, next_windowed, next_repair_windowed, window_beside, Stored, StageStored, ZerosStored, BlockStored, HeaderStored, RepairStored}
+use Rattle.windows_staged.specs.Stages.{next_why, next_repair_why, next_windowed, next_repair_windowed, Stored, StageStored, ZerosStored, BlockStored, HeaderStored, RepairStored}
 
 -- ---- one store in a side's own bytes, in the whole image
 
@@ -118,23 +117,15 @@ module _ (B N h t k : ℕ) (r : Repair) where
 
 -- ---- the ends of the calls
 
--- an update's answer is told as a struct
-pub beside-ends : {o : Windowed (Answer Update)} {a : Answer Update} {h t : List ℕ} → WindowEnds o a h t → WindowEnds (window_beside o) (beside zero_update a) h t
-beside-ends e = record { answer = ap (beside zero_update) e.answer; front = e.front; back = e.back }
+-- a number that names nothing is handed on as the refusal that gave it, or there was none
+module _ (w : Why) {f : ℕ} {v : Why} (e : f ≡ w.number) (p : v ≡ plain f) where
+  pub later-refused : Bare w → Named w → {r : Reason} → Err r ≡ verdict_of v → (w.number ≡ 0 → ⊥) × (why_at r ≡ w)
+  later-refused b k q =
+      let i : v ≡ w = p ∙ ap plain e ∙ sym b.bare in
+      (λ z. verdict-wrong v q (number-of i ∙ z), told-reason w k i (verdict-wrong v q) (verdict-reason v q) ∙ i)
 
-pub step-refused : (w : Why) → Named w → {f : Why} → f ≡ w → (f.number ≡ 0 → ⊥) → update_means (record { verdict = verdict_of f; state = zero_update }) ≡ beside zero_update (refused f)
-unfolding beside
-step-refused w k e d = ap (λ (a : Answer Unit). record { verdict = a; value = zero_update }) (told-verdict w k e d)
-
-pub step-accepted : (u : Update) → update_means (record { verdict = verdict.Accepted; state = u }) ≡ beside zero_update (accepted u)
-unfolding beside
-step-accepted u = refl
-
--- a repair's refusal names nothing
-pub mend-refused : (w : Why) → Bare w → Named w → {f : ℕ} → f ≡ w.number → (f ≡ 0 → ⊥) → repair_means (repair.Refused (reason_of (plain f))) ≡ refused w
-mend-refused w b k e d =
-    let p = ap plain e ∙ sym b.bare in
-    ap (λ (x : Why). refused (why_at (reason_of x))) p ∙ ap refused (k.name (λ z. d (e ∙ z)))
+  pub later-zero : Ok tt ≡ verdict_of v → w.number ≡ 0
+  later-zero q = sym e ∙ sym (number-of p) ∙ verdict-passed v q
 
 -- a later stage: refused by its own test, or stored
 module _ {A : Type 0} (w : Why) (B N : ℕ) (head tail : List ℕ) (F : List ℕ → Outcome (Answer A)) where

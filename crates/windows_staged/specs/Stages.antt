@@ -3,7 +3,7 @@
 use Rattle.std.specs.Prelude.{◌≡◌, true, false, ◌||◌, List, ℕ, ◌+◌, ◌*◌, ◌-◌, eqb, ltb, length}
 use Rattle.std.proofs.lemmas.List.Edits.{sets}
 use Rattle.units.specs.declared.why.Why.{Why}
-use Rattle.units.specs.Answer.{Answer, Beside, beside, or_else}
+use Rattle.units.specs.Answer.{Answer, or_else}
 use Rattle.units.specs.Bytes.{part}
 use Rattle.partition.specs.declared.Partition.{Partition}
 use Rattle.tables.specs.Places.{array_blocks}
@@ -15,7 +15,6 @@ use Rattle.staged.specs.declared.Repair.{Repair}
 use Rattle.staged.specs.Numbers.{start_put, start_clear, next_check, next_stage, next_repair_check, next_repair}
 use Rattle.staged.specs.Repairs.{mended}
 use Rattle.staged.specs.Stores.{store_in, store_bytes}
-use Rattle.staged.specs.Meanings.{zero_update}
 use Rattle.windows.specs.Windows.{length_check, Windowed, windowed_by, window_outcome}
 use Rattle.windows_reader.specs.Parts.{array_of}
 
@@ -33,16 +32,12 @@ next_windowed B N head tail k u = windowed_by (next_why B N (length head) (lengt
 abbrev pub next_repair_windowed : ℕ → ℕ → List ℕ → List ℕ → ℕ → Repair → Windowed (Answer Repair)
 next_repair_windowed B N head tail k r = windowed_by (next_repair_why B N (length head) (length tail) k r) B N head tail (λ (xs : List ℕ). next_repair B xs k r)
 
--- an outcome as the struct tells it: beside a refusal stands the state of zeros
-abbrev pub window_beside : Windowed (Answer Update) → Windowed (Beside Update)
-window_beside o = record { answer = beside zero_update o.answer; head = o.head; tail = o.tail }
+-- stage one
+abbrev pub start_put_in : ℕ → ℕ → List ℕ → List ℕ → ℕ → Partition → Windowed (Answer Update)
+start_put_in B N head tail s p = window_outcome B N head tail (λ (xs : List ℕ). start_put B xs s p)
 
--- stage one, so told
-abbrev pub start_put_in : ℕ → ℕ → List ℕ → List ℕ → ℕ → Partition → Windowed (Beside Update)
-start_put_in B N head tail s p = window_beside (window_outcome B N head tail (λ (xs : List ℕ). start_put B xs s p))
-
-abbrev pub start_clear_in : ℕ → ℕ → List ℕ → List ℕ → ℕ → Windowed (Beside Update)
-start_clear_in B N head tail s = window_beside (window_outcome B N head tail (λ (xs : List ℕ). start_clear B xs s))
+abbrev pub start_clear_in : ℕ → ℕ → List ℕ → List ℕ → ℕ → Windowed (Answer Update)
+start_clear_in B N head tail s = window_outcome B N head tail (λ (xs : List ℕ). start_clear B xs s)
 
 -- ---- one store at a place of a side's own bytes: the front table is in the head after block 0, the back one is the tail
 

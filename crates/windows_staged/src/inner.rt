@@ -1,7 +1,6 @@
 // Leaves for our own crates: each `requires` is what its caller has tested. No public calls.
 // `head` and `tail` are two windows of a card of `blocks` blocks, as in `windows::inner`; `len` is the card's length in bytes.
 ghost use Rattle.std.specs.Prelude.{◌≡◌, false, ◌+◌, ◌*◌, ◌≤◌, length};
-ghost use Rattle.crc32.specs.Rows.{Rows};
 ghost use Rattle.tables.specs.Lens.{side_of, copy_at};
 ghost use Rattle.tables.specs.Check.{room_check, table_check, check, bad_slot};
 ghost use Rattle.staged.specs.Stages.{fixed};
@@ -16,18 +15,17 @@ use units::{Slot, why};
 const WRONG_STAGE: u32 = 26;
 
 // Stage k of an update, 1 to 4: in the tail at 1 and 2, the slot's bytes at 1 and 3.
-pub fn store_stage(t: &[u32; 4096], head: &mut [u8], tail: &mut [u8], u: Update, k: u32)
-    requires rows { Rows 16 t.now }
-    requires len_value { ((room_check u.b u.len).number ≡ 0) × (bad_slot u.slot.0 ≡ false) × (length head.old ≡ head_long u.b) × (length tail.old ≡ tail_long u.b) }
+pub fn store_stage(head: &mut [u8], tail: &mut [u8], u: Update, k: u32)
+    requires { ((room_check u.b u.len).number ≡ 0) × (bad_slot u.slot.0 ≡ false) × (length head.old ≡ head_long u.b) × (length tail.old ≡ tail_long u.b) }
     ensures { StageStored u k head.old tail.old head.new tail.new }
 {
     let header = (k == 2) | (k == 4);
     if k < 3 {
-        staged::inner::store_copy(t, tail, u, true, header);
+        staged::inner::store_copy(tail, u, true, header);
         return;
     }
     let size = u.b as usize;
-    staged::inner::store_copy(t, &mut head[size..size + (size + 16384)], u, false, header);
+    staged::inner::store_copy(&mut head[size..size + (size + 16384)], u, false, header);
 }
 
 // The number that refuses a later stage of an update, or 0: 1 bad block size, 26 wrong stage, 32 a window's length.
@@ -87,19 +85,17 @@ fn store_block(head: &mut [u8], tail: &mut [u8], b: u64, back: bool, j: u64)
 }
 
 // The header's block of the side that a repair writes.
-fn store_header(t: &[u32; 4096], head: &mut [u8], tail: &mut [u8], r: Repair, back: bool)
-    requires rows { Rows 16 t.now }
-    requires len_value { ((room_check r.b r.len).number ≡ 0) × (length head.old ≡ head_long r.b) × (length tail.old ≡ tail_long r.b) }
+fn store_header(head: &mut [u8], tail: &mut [u8], r: Repair, back: bool)
+    requires { ((room_check r.b r.len).number ≡ 0) × (length head.old ≡ head_long r.b) × (length tail.old ≡ tail_long r.b) }
     ensures { HeaderStored r (side_of back) head.old tail.old head.new tail.new }
 {
     let guid = r.guid;
     if back {
-        tables::inner::put_header(t, tail, r.len, r.b, true, guid, r.parts);
+        tables::inner::put_header(tail, r.len, r.b, true, guid, r.parts);
         return;
     }
     let size = r.b as usize;
     tables::inner::put_header(
-        t,
         &mut head[size..size + (size + 16384)],
         r.len,
         r.b,
@@ -110,9 +106,8 @@ fn store_header(t: &[u32; 4096], head: &mut [u8], tail: &mut [u8], r: Repair, ba
 }
 
 // Stage k of a repair, from 2 on: a block of the array, or the header at the last stage.
-pub fn store_repair(t: &[u32; 4096], head: &mut [u8], tail: &mut [u8], r: Repair, k: u32)
-    requires rows { Rows 16 t.now }
-    requires len_value { ((room_check r.b r.len).number ≡ 0) × (length head.old ≡ head_long r.b) × (length tail.old ≡ tail_long r.b) × (2 ≤ k) }
+pub fn store_repair(head: &mut [u8], tail: &mut [u8], r: Repair, k: u32)
+    requires { ((room_check r.b r.len).number ≡ 0) × (length head.old ≡ head_long r.b) × (length tail.old ≡ tail_long r.b) × (2 ≤ k) }
     ensures { RepairStored r k head.old tail.old head.new tail.new }
 {
     let back = !r.back;
@@ -121,7 +116,7 @@ pub fn store_repair(t: &[u32; 4096], head: &mut [u8], tail: &mut [u8], r: Repair
         store_block(head, tail, r.b, back, j);
         return;
     }
-    store_header(t, head, tail, r, back);
+    store_header(head, tail, r, back);
 }
 
 // The number that refuses a later stage of a repair, or 0: 1 bad block size, 26 wrong stage, 32 a window's length.
@@ -141,7 +136,6 @@ pub fn next_repair_check(head: usize, tail: usize, blocks: u64, b: u64, k: u32, 
 
 // Stage one of an update, once the check has accepted the windows and the slot: what it fixes, and its store.
 pub fn begin(
-    t: &[u32; 4096],
     head: &mut [u8],
     tail: &mut [u8],
     len: usize,
@@ -149,12 +143,11 @@ pub fn begin(
     slot: Slot,
     e: [u8; 128],
 ) -> Update
-    requires rows { Rows 16 t.now }
-    requires head_len { (length head.old ≡ head_long b) × (length tail.old ≡ tail_long b) × ((check b len (window_tables b head.old tail.old)).number ≡ 0) × (bad_slot slot.0 ≡ false) }
+    requires { (length head.old ≡ head_long b) × (length tail.old ≡ tail_long b) × ((check b len (window_tables b head.old tail.old)).number ≡ 0) × (bad_slot slot.0 ≡ false) }
     ensures value { result ≡ fixed b len (window_tables b head.old tail.old) slot.0 e }
     ensures stage_stored { StageStored result 1 head.old tail.old head.new tail.new }
 {
-    let u = staged::inner::fix(t, head, len, b, slot, e);
-    store_stage(t, head, tail, u, 1);
+    let u = staged::inner::fix(head, len, b, slot, e);
+    store_stage(head, tail, u, 1);
     u
 }

@@ -10,9 +10,6 @@ use Rattle.card.specs.Calls.{clear_at}
 use Rattle.card.proofs.ChangeWays.{refuses, accepts}
 use Rattle.card.proofs.clear.Goals as goal
 
-pub slot_check-found-requires : goal.slot_check-found-requires
-slot_check-found-requires c = c.table-t.ensures
-
 pub returns-then-found-ne0 : goal.returns-then-found-ne0
 unfolding clear_at
 returns-then-found-ne0 c =
@@ -24,7 +21,7 @@ pub change-requires : goal.change-requires
 change-requires c =
     let a = c.args in
     let k = slot-good a.b (length a.img.now) (tables a.b a.img.now) a.slot.0 (sym (number-of c.slot_check-found.ensures) ∙ c.if-found-ne0.false) in
-    record { rows = c.table-t.ensures; img_value = k.0; slot_value = (k.1, refl) }
+    record { img_value = k.0; slot_value = (k.1, refl) }
 
 pub returns : goal.returns
 unfolding clear_at zeros

@@ -8,7 +8,7 @@ use Rattle.card.proofs.ChangeWays.{put-good, named_put, refuses, accepts}
 use Rattle.card.proofs.put.Goals as goal
 
 pub put_check-found-requires : goal.put_check-found-requires
-put_check-found-requires c = (c.table-t.ensures, c.tidied_bytes-e.ensures.1)
+put_check-found-requires c = c.tidied_bytes-e.ensures.1
 
 pub returns-then-found-ne0 : goal.returns-then-found-ne0
 unfolding put_at
@@ -23,7 +23,7 @@ change-requires c =
     let a = c.args in
     let e = c.tidied_bytes-e in
     let k = put-good a.b (length a.img.now) (tables a.b a.img.now) a.slot.0 e.result a.p.flags.reserved (sym (number-of c.put_check-found.ensures) ∙ c.if-found-ne0.false) in
-    record { rows = c.table-t.ensures; img_value = k.0; slot_value = (k.1, e.ensures.1) }
+    record { img_value = k.0; slot_value = (k.1, e.ensures.1) }
 
 pub returns : goal.returns
 unfolding put_at

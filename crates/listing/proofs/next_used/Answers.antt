@@ -1,25 +1,17 @@
 -- `listing::next_used` meets its contract. Assumes nothing.
-use mathlib.Core.Path.{sym, ap, ◌∙◌}
-use Rattle.units.specs.Meanings.{card_means}
-use Rattle.listing.proofs.Ways.{check-room, next-refused, next-over, next-given}
+use Rattle.std.proofs.Common.{sym, ap, ◌∙◌}
+use Rattle.units.proofs.Results.{err-is}
+use Rattle.listing.specs.Meanings.{card_next_means}
+use Rattle.listing.proofs.Ways.{check-room, next-refused, next-given}
 use Rattle.listing.proofs.next_used.Goals as goal
 
-pub used_after-slot-requires : goal.used_after-slot-requires
-used_after-slot-requires c =
-    let a = c.args in
-    check-room a.b a.img.now (sym c.check.ensures ∙ ap card_means c.in-Accepted.is)
+pub used_after-requires : goal.used_after-requires
+used_after-requires c = let a = c.args in check-room a.b a.img.now (sym c.in_ok-check.ensures)
 
-pub returns-then-slot-eq0 : goal.returns-then-slot-eq0
-returns-then-slot-eq0 c =
+pub returns-in_err-check : goal.returns-in_err-check
+returns-in_err-check c =
     let a = c.args in
-    next-over a.b a.img.now (sym c.check.ensures ∙ ap card_means c.in-Accepted.is) a.after.0 c.used_after-slot.ensures c.if-slot-eq0.true
+    ap card_next_means (err-is _ _ c.from_residual.ensures.1) ∙ next-refused a.b a.img.now (sym c.in_err-check.ensures) a.after.0
 
-pub returns-in-Refused : goal.returns-in-Refused
-returns-in-Refused c =
-    let a = c.args in
-    next-refused a.b a.img.now (sym c.check.ensures ∙ ap card_means c.in-Refused.is) a.after.0
-
-pub returns-else-slot-eq0 : goal.returns-else-slot-eq0
-returns-else-slot-eq0 c =
-    let a = c.args in
-    next-given a.b a.img.now (sym c.check.ensures ∙ ap card_means c.in-Accepted.is) a.after.0 c.used_after-slot.ensures c.if-slot-eq0.false
+pub returns : goal.returns
+returns c = let a = c.args in next-given a.b a.img.now (sym c.in_ok-check.ensures) a.after.0 c.used_after.ensures

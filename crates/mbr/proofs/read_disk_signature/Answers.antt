@@ -1,12 +1,9 @@
 -- `mbr::read_disk_signature` meets its contract. Assumes nothing.
-use Rattle.units.specs.Answer.{beside}
 use Rattle.mbr.proofs.Laws.{read_short, read_all}
 use Rattle.mbr.proofs.read_disk_signature.Goals as goal
 
 pub returns-then-img-lt444 : goal.returns-then-img-lt444
-unfolding beside
 returns-then-img-lt444 c = rw (read_short c.args.img.now 440 4 c.if-img-lt444.true)
 
 pub returns : goal.returns
-unfolding beside
 returns c = rw (read_all c.args.img.now 440 4 c.if-img-lt444.false, c.copy_out.ensures)

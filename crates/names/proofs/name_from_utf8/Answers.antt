@@ -6,23 +6,23 @@ use Rattle.names.proofs.name_from_utf8.Goals as goal
 pub loop-at-init : goal.loop-at-init
 loop-at-init c = (omega arith, omega arith, gone-start c.args.text.now)
 
-pub returns-then-size-eq0 : goal.returns-then-size-eq0
-returns-then-size-eq0 c =
+pub returns-then-s-eq0 : goal.returns-then-s-eq0
+returns-then-s-eq0 c =
     let d = c in
-    gone-none d.loop-at.invariant.2 d.scalar_at-s.ensures.0 (omega arith) c.refused.ensures c.if-size-eq0.true
+    gone-none d.loop-at.invariant.2 d.scalar_at-s.ensures.0 (omega arith) c.refused.ensures c.if-s-eq0.true
 
-pub returns-then-code-eq0 : goal.returns-then-code-eq0
-returns-then-code-eq0 c =
+pub returns-then-s-eq0-2 : goal.returns-then-s-eq0-2
+returns-then-s-eq0-2 c =
     let d = c in
     let s = d in
-    gone-zero s.loop-at.invariant.2 s.scalar_at-s.ensures.0 (omega arith) d.if-size-eq0.false c.refused-then-code-eq0.ensures c.if-code-eq0.true
+    gone-zero s.loop-at.invariant.2 s.scalar_at-s.ensures.0 (omega arith) d.if-s-eq0.false c.refused-then-s-eq0-2.ensures c.if-s-eq0-2.true
 
 pub returns-then-k-n-gt36 : goal.returns-then-k-n-gt36
 returns-then-k-n-gt36 c =
     let n = c in
     let d = n in
     let s = d in
-    gone-full s.loop-at.invariant.2 s.scalar_at-s.ensures.0 (omega arith) d.if-size-eq0.false d.if-code-eq0.false n.unit_count-n.ensures.0
+    gone-full s.loop-at.invariant.2 s.scalar_at-s.ensures.0 (omega arith) d.if-s-eq0.false d.if-s-eq0-2.false n.unit_count-n.ensures.0
     c.refused-then-k-n-gt36.ensures c.if-k-n-gt36.true
 
 pub put_units-requires : goal.put_units-requires
@@ -35,7 +35,7 @@ loop-at-preserved c =
     let s = d in (
       omega arith,
       omega arith,
-      gone-on s.loop-at.invariant.2 s.scalar_at-s.ensures.0 (omega arith) d.if-size-eq0.false d.if-code-eq0.false n.unit_count-n.ensures.0
+      gone-on s.loop-at.invariant.2 s.scalar_at-s.ensures.0 (omega arith) d.if-s-eq0.false d.if-s-eq0-2.false n.unit_count-n.ensures.0
           c.put_units.ensures (omega arith),
     )
 

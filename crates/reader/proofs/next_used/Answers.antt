@@ -1,7 +1,7 @@
 -- `reader::next_used` meets its contract. Assumes nothing.
 use native.Mathlib.Omega.{arith}
 use Rattle.units.proofs.Lists.{length-lent}
-use Rattle.reader.proofs.Ways.{refuses, room, next-over, next-given, lent-array, whole-array}
+use Rattle.reader.proofs.Ways.{refuses, room, next-given, lent-array, whole-array}
 use Rattle.reader.proofs.next_used.Goals as goal
 
 pub returns-then-found-ne0 : goal.returns-then-found-ne0
@@ -15,17 +15,11 @@ array_byte_place-at-requires c = let a = c.args in room a.b a.img.now c.choose-f
 pub slice_bounds-next_present-end : goal.slice_bounds-next_present-end
 slice_bounds-next_present-end c = omega (arith, c.array_byte_place-at.ensures.1)
 
-pub next_present-slot-requires : goal.next_present-slot-requires
-next_present-slot-requires c = let a = c.args in whole-array _ (length-lent a.img.now c.array_byte_place-at.result.0 16384 c.array_byte_place-at.ensures.1)
-
-pub returns-then-slot-eq0 : goal.returns-then-slot-eq0
-returns-then-slot-eq0 c =
-    let a = c.args in
-    let z = c.if-found-ne0.false in
-    next-over a.b a.img.now c.choose-found.ensures.0 z a.after.0 (lent-array a.b a.img.now (c.choose-found.ensures.1 z) c.array_byte_place-at.ensures.0) c.next_present-slot.ensures c.if-slot-eq0.true
+pub next_present-requires : goal.next_present-requires
+next_present-requires c = let a = c.args in whole-array _ (length-lent a.img.now c.array_byte_place-at.result.0 16384 c.array_byte_place-at.ensures.1)
 
 pub returns : goal.returns
 returns c =
     let a = c.args in
     let z = c.if-found-ne0.false in
-    next-given a.b a.img.now c.choose-found.ensures.0 z a.after.0 (lent-array a.b a.img.now (c.choose-found.ensures.1 z) c.array_byte_place-at.ensures.0) c.next_present-slot.ensures c.if-slot-eq0.false
+    next-given a.b a.img.now c.choose-found.ensures.0 z a.after.0 (lent-array a.b a.img.now (c.choose-found.ensures.1 z) c.array_byte_place-at.ensures.0) c.next_present.ensures

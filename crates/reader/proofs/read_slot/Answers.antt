@@ -1,20 +1,19 @@
 -- `reader::read_slot` meets its contract. Assumes nothing.
-use mathlib.Core.Path.{sym, ap, ◌∙◌}
+use mathlib.Core.Path.{sym, ◌∙◌}
 use native.Mathlib.Omega.{arith}
 use Rattle.units.proofs.Lists.{length-lent}
-use Rattle.partition.specs.Meanings.{read_means}
 use Rattle.reader.proofs.Ways.{room, read-refused, read-bad, read-given, lent-array}
 use Rattle.reader.proofs.read_slot.Goals as goal
 
 pub returns-then-found-ne0 : goal.returns-then-found-ne0
 returns-then-found-ne0 c =
     let a = c.args in
-    ap read_means c.refused.ensures ∙ read-refused a.b a.img.now c.choose-found.ensures.0 a.slot.0 c.if-found-ne0.true c.refusal.ensures
+    read-refused a.b a.img.now c.choose-found.ensures.0 a.slot.0 c.if-found-ne0.true c.refusal.ensures
 
 pub returns-then-bad_slot : goal.returns-then-bad_slot
 returns-then-bad_slot c =
     let a = c.args in
-    ap read_means c.refused-then-bad_slot.ensures ∙ read-bad a.b a.img.now c.choose-found.ensures.0 c.if-found-ne0.false a.slot.0 c.bad_slot.ensures c.if-bad_slot.true
+    read-bad a.b a.img.now c.choose-found.ensures.0 c.if-found-ne0.false a.slot.0 c.bad_slot.ensures c.if-bad_slot.true
 
 pub array_byte_place-at-requires : goal.array_byte_place-at-requires
 array_byte_place-at-requires c = let a = c.args in room a.b a.img.now c.choose-found.ensures.0 c.if-found-ne0.false

@@ -1,21 +1,38 @@
--- `slot_map::put` meets its contract: what the card's put answers, and the map that it hands on. Assumes nothing.
-use mathlib.Core.Path.{ap, ◌∙◌}
-use mathlib.Core.Bool.{true}
+-- `slot_map::put` meets its contract: what the card's put answers, and the map that its caller then has. Assumes nothing.
+use Rattle.std.proofs.Common.{refl, ap, ◌∙◌}
+use Rattle.std.specs.Prelude.{true, ℕ, set, Result}
+use native.Mathlib.Omega.{arith}
+use Rattle.units.specs.declared.Reason.{Reason}
 use Rattle.units.specs.Answer.{Answer}
 use Rattle.units.specs.Meanings.{card_means}
+use Rattle.units.proofs.Results.{err-is}
 use Rattle.history.specs.History.{taken}
+use Rattle.slot_map.specs.declared.SlotMap.{SlotMap}
 use Rattle.slot_map.specs.Bits.{map_of}
-use Rattle.slot_map.specs.Map.{marked}
+use Rattle.slot_map.specs.Map.{marked, verdict, kept}
 use Rattle.slot_map.proofs.Ways.{put-slot, ends_as}
 use Rattle.slot_map.proofs.put.Goals as goal
 
-pub handed_on-requires : goal.handed_on-requires
-handed_on-requires c =
+pub with_bit-requires : goal.with_bit-requires
+with_bit-requires c =
     let a = c.args in
-    put-slot a.b a.img.now a.slot.0 a.p c.put.ensures
+    omega (arith, c.array_place.ensures, put-slot a.b a.img.now a.slot.0 a.p c.in_ok-put.ensures refl)
+
+pub returns-in_err-put : goal.returns-in_err-put
+returns-in_err-put c =
+    let a = c.args in
+    let e = err-is _ _ c.from_residual.ensures.1 in
+    let o = c.in_err-put.ensures in
+    record {
+      ends = ends_as o (ap (λ (r : Result SlotMap Reason). card_means (verdict r)) e);
+      map_value = ap (λ (r : Result SlotMap Reason). map_of (kept a.map r)) e ∙ ap (λ (r : Answer Unit). marked (taken r) a.slot.0 true (map_of a.map)) o.answer;
+    }
 
 pub returns : goal.returns
 returns c =
     let a = c.args in
-    let h = c.handed_on.ensures in
-    record { ends = ends_as c.put.ensures (ap card_means h.0); map_value = h.1 ∙ ap (λ (r : Answer Unit). marked (taken r) a.slot.0 true (map_of a.map)) c.put.ensures.answer }
+    let o = c.in_ok-put.ensures in
+    record {
+      ends = o;
+      map_value = c.with_bit.ensures ∙ ap (λ (i : ℕ). set (map_of a.map) i true) c.array_place.ensures ∙ ap (λ (r : Answer Unit). marked (taken r) a.slot.0 true (map_of a.map)) o.answer;
+    }

@@ -5,13 +5,10 @@ use Rattle.units.proofs.Chains.{number-of}
 use Rattle.slot_map.proofs.Ways.{room_in, front-in, lent-long, answer-refused, answer-made}
 use Rattle.slot_map.proofs.slot_map.Goals as goal
 
-pub check_with-found-requires : goal.check_with-found-requires
-check_with-found-requires c = c.table-t.ensures
-
 pub returns-then-found-ne0 : goal.returns-then-found-ne0
 returns-then-found-ne0 c =
     let a = c.args in
-    answer-refused a.b a.img.now c.check_with-found.ensures (record { low = 0; high = 0 }) c.made.ensures c.if-found-ne0.true
+    answer-refused a.b a.img.now c.check_with-found.ensures c.if-found-ne0.true c.reason.ensures
 
 pub overflow_add-size : goal.overflow_add-size
 overflow_add-size c = let a = c.args in omega (arith, (room_in a.b a.img.now (sym (number-of c.check_with-found.ensures) ∙ c.if-found-ne0.false)).most)
@@ -30,4 +27,4 @@ map_of-requires c =
 pub returns : goal.returns
 returns c =
     let a = c.args in
-    answer-made a.b a.img.now c.check_with-found.ensures c.map_of.result c.made-2.ensures c.if-found-ne0.false c.map_of.ensures
+    answer-made a.b a.img.now c.check_with-found.ensures c.if-found-ne0.false c.map_of.ensures

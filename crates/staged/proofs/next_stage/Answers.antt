@@ -16,18 +16,17 @@ returns-then-found-ne0 c =
     let a = c.args in
     let n = length a.img.now in
     let w = next_check a.b (length a.img.now) a.stage a.state in
-    rw c.refused.ensures
     (step-refused w (named-next a.b n a.stage a.state) (c.by_number.ensures ∙ ap plain c.next_check-found.ensures ∙ sym (bare-next a.b n a.stage a.state).bare)
-    (onward a.state) a.img.now (stage_store a.b n a.state a.stage a.img.now) (λ z. c.if-found-ne0.true (sym (number-of c.by_number.ensures) ∙ z)))
+    (onward a.state) a.img.now (stage_store a.b n a.state a.stage a.img.now) (λ z. c.if-found-ne0.true (sym (number-of c.by_number.ensures) ∙ z)) c.reason.ensures)
 
 pub store_stage-requires : goal.store_stage-requires
 store_stage-requires c =
     let a = c.args in
     let k = (next-leads a.b (length a.img.now) a.stage a.state (sym c.next_check-found.ensures ∙ c.if-found-ne0.false)) in
-    record { rows = c.table-t.ensures; len_value = leads-store k; le_k = (omega (arith, k.low), k.high) }
+    record { len_value = leads-store k; le_k = (omega (arith, k.low), k.high) }
 
-pub onward-next-requires : goal.onward-next-requires
-onward-next-requires c =
+pub onward-requires : goal.onward-requires
+onward-requires c =
     let a = c.args in
     let k = (next-leads a.b (length a.img.now) a.stage a.state (sym c.next_check-found.ensures ∙ c.if-found-ne0.false)) in omega (arith, k.stage, k.high)
 
@@ -37,4 +36,4 @@ returns c =
     let a = c.args in
     let n = length a.img.now in
     step-accepted (next_check a.b (length a.img.now) a.stage a.state) (named-next a.b n a.stage a.state) refl (onward a.state) a.img.now (stage_store a.b (length a.img.now) a.state a.stage a.img.now)
-    (sym c.next_check-found.ensures ∙ c.if-found-ne0.false) c.onward-next.ensures (c.store_stage.ensures ∙ stage-here a.img.now (next-leads a.b (length a.img.now) a.stage a.state (sym c.next_check-found.ensures ∙ c.if-found-ne0.false)))
+    (sym c.next_check-found.ensures ∙ c.if-found-ne0.false) c.onward.ensures (c.store_stage.ensures ∙ stage-here a.img.now (next-leads a.b (length a.img.now) a.stage a.state (sym c.next_check-found.ensures ∙ c.if-found-ne0.false)))

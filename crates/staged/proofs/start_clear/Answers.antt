@@ -13,23 +13,19 @@ use Rattle.staged.specs.Numbers.{start_clear_at}
 use Rattle.staged.proofs.Ways.{step-refused, step-accepted}
 use Rattle.staged.proofs.start_clear.Goals as goal
 
-pub slot_check-found-requires : goal.slot_check-found-requires
-slot_check-found-requires c = c.table-t.ensures
-
 pub returns-then-found-ne0 : goal.returns-then-found-ne0
 unfolding start_clear_at
 returns-then-found-ne0 c =
     let a = c.args in
     let n = length a.img.now in
     let t = tables a.b a.img.now in
-    rw c.refused.ensures
     (step-refused (slot_check a.b (length a.img.now) (tables a.b a.img.now) a.slot.0) (named-slot a.b n t a.slot.0) c.slot_check-found.ensures
-    (fixed a.b n t a.slot.0 (zeros 128)) a.img.now (stage_store a.b n (fixed a.b n t a.slot.0 (zeros 128)) 1 a.img.now) c.if-found-ne0.true)
+    (fixed a.b n t a.slot.0 (zeros 128)) a.img.now (stage_store a.b n (fixed a.b n t a.slot.0 (zeros 128)) 1 a.img.now) c.if-found-ne0.true c.reason.ensures)
 
-pub begin-state-requires : goal.begin-state-requires
-begin-state-requires c =
+pub begin-requires : goal.begin-requires
+begin-requires c =
     let a = c.args in
-    record { rows = c.table-t.ensures; img_value = slot-good a.b (length a.img.now) (tables a.b a.img.now) a.slot.0 (sym (number-of c.slot_check-found.ensures) ∙ c.if-found-ne0.false) }
+    slot-good a.b (length a.img.now) (tables a.b a.img.now) a.slot.0 (sym (number-of c.slot_check-found.ensures) ∙ c.if-found-ne0.false)
 
 pub returns : goal.returns
 unfolding start_clear_at zeros
@@ -37,7 +33,7 @@ returns c =
     let a = c.args in
     let n = length a.img.now in
     let t = tables a.b a.img.now in
-    let s = c.begin-state.ensures in
+    let s = c.begin.ensures in
     step-accepted (slot_check a.b (length a.img.now) (tables a.b a.img.now) a.slot.0) (named-slot a.b n t a.slot.0) c.slot_check-found.ensures
     (fixed a.b n t a.slot.0 (zeros 128)) a.img.now (stage_store a.b n (fixed a.b n t a.slot.0 (zeros 128)) 1 a.img.now) c.if-found-ne0.false s.value
     (s.img_after ∙ ap (λ (u : Update). stage_store a.b n u 1 a.img.now) s.value)

@@ -13,7 +13,7 @@ use Rattle.staged.proofs.Ways.{step-refused, step-accepted}
 use Rattle.staged.proofs.start_put.Goals as goal
 
 pub put_check-found-requires : goal.put_check-found-requires
-put_check-found-requires c = (c.table-t.ensures, c.tidied_bytes-e.ensures.1)
+put_check-found-requires c = c.tidied_bytes-e.ensures.1
 
 pub returns-then-found-ne0 : goal.returns-then-found-ne0
 unfolding start_put_at
@@ -22,16 +22,16 @@ returns-then-found-ne0 c =
     let e = c.tidied_bytes-e in
     let n = length a.img.now in
     let t = tables a.b a.img.now in
-    rw (c.refused.ensures, ← e.ensures.0)
+    rw (← e.ensures.0)
     (step-refused (put_check a.b (length a.img.now) (tables a.b a.img.now) a.slot.0 e.result a.p.flags.reserved) (named_put a.b n t a.slot.0 e.result a.p.flags.reserved) c.put_check-found.ensures
-    (fixed a.b n t a.slot.0 e.result) a.img.now (stage_store a.b n (fixed a.b n t a.slot.0 e.result) 1 a.img.now) c.if-found-ne0.true)
+    (fixed a.b n t a.slot.0 e.result) a.img.now (stage_store a.b n (fixed a.b n t a.slot.0 e.result) 1 a.img.now) c.if-found-ne0.true c.reason.ensures)
 
-pub begin-state-requires : goal.begin-state-requires
-begin-state-requires c =
+pub begin-requires : goal.begin-requires
+begin-requires c =
     let a = c.args in
     let e = c.tidied_bytes-e in
     let k = put-good a.b (length a.img.now) (tables a.b a.img.now) a.slot.0 e.result a.p.flags.reserved (sym (number-of c.put_check-found.ensures) ∙ c.if-found-ne0.false) in
-    record { rows = c.table-t.ensures; img_value = k }
+    k
 
 pub returns : goal.returns
 unfolding start_put_at
@@ -40,7 +40,7 @@ returns c =
     let e = c.tidied_bytes-e in
     let n = length a.img.now in
     let t = tables a.b a.img.now in
-    let s = c.begin-state.ensures in
+    let s = c.begin.ensures in
     rw (← e.ensures.0)
     (step-accepted (put_check a.b (length a.img.now) (tables a.b a.img.now) a.slot.0 e.result a.p.flags.reserved) (named_put a.b n t a.slot.0 e.result a.p.flags.reserved) c.put_check-found.ensures
     (fixed a.b n t a.slot.0 e.result) a.img.now (stage_store a.b n (fixed a.b n t a.slot.0 e.result) 1 a.img.now) c.if-found-ne0.false s.value

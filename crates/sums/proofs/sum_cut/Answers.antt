@@ -1,8 +1,8 @@
-use Rattle.std.proofs.Common.{rules, ◌∙◌}
-use Rattle.sums.proofs.Cutting.{next-is}
+use Rattle.std.proofs.Common.{◌∙◌}
+use Rattle.sums.proofs.Cutting.{cut-next}
 use Rattle.sums.proofs.sum_cut.Goals as goal
 
 pub loop-cut-preserved : goal.loop-cut-preserved
 loop-cut-preserved c =
     let l = c.loop-cut in
-    (search rules, next-is c.args.bytes.now _ l.i l.sum c.crc32_next-sum.ensures ∙ l.invariant.1)
+    cut-next l.rest.now c.min-n.result l.sum c.crc32_next-sum.ensures ∙ l.invariant

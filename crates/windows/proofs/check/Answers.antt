@@ -6,9 +6,6 @@ use Rattle.checking.proofs.CheckWays.{named-check}
 use Rattle.windows.proofs.Ways.{verdict-asked}
 use Rattle.windows.proofs.check.Goals as goal
 
-pub check_in-found-requires : goal.check_in-found-requires
-check_in-found-requires c = c.table-t.ensures
-
 pub returns : goal.returns
 returns c =
     let a = c.args in

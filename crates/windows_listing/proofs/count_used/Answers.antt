@@ -17,9 +17,6 @@ use Rattle.windows_listing.proofs.count_used.Goals as goal
 abbrev counts : ℕ → Tables → ℕ
 counts n t = length (present_slots t)
 
-pub check_in-found-requires : goal.check_in-found-requires
-check_in-found-requires c = c.table-t.ensures
-
 pub returns-then-found-ne0 : goal.returns-then-found-ne0
 returns-then-found-ne0 c = let a = c.args in refuses a.b a.blocks a.head.now a.tail.now (check a.b) (named-check a.b) c.check_in-found.ensures counts c.if-found-ne0.true c.reason.ensures
 

@@ -5,11 +5,8 @@ use Rattle.windows.proofs.Ways.{why-fits}
 use Rattle.windows_listing.proofs.Ways.{free-refused, free-checked, free-given}
 use Rattle.windows_listing.proofs.free_runs.Goals as goal
 
-pub check_in-found-requires : goal.check_in-found-requires
-check_in-found-requires c = c.table-t.ensures
-
 pub returns-then-found-ne0 : goal.returns-then-found-ne0
-returns-then-found-ne0 c = let a = c.args in free-refused a.b a.blocks a.head.now a.tail.now c.check_in-found.ensures a.starts.now a.lengths.now c.if-found-ne0.true c.answer.ensures
+returns-then-found-ne0 c = let a = c.args in free-refused a.b a.blocks a.head.now a.tail.now c.check_in-found.ensures a.starts.now a.lengths.now c.if-found-ne0.true c.reason.ensures
 
 pub overflow_mul-len : goal.overflow_mul-len
 overflow_mul-len c = omega (arith, (let a = c.args in why-fits a.b a.blocks a.head.now a.tail.now (check a.b) c.check_in-found.ensures c.if-found-ne0.false).width)
@@ -23,8 +20,8 @@ overflow_add-front-2 c = omega (arith, (let a = c.args in why-fits a.b a.blocks 
 pub slice_bounds-front-end : goal.slice_bounds-front-end
 slice_bounds-front-end c = omega (arith, (let a = c.args in why-fits a.b a.blocks a.head.now a.tail.now (check a.b) c.check_in-found.ensures c.if-found-ne0.false).head-long)
 
-pub runs_into-c-requires : goal.runs_into-c-requires
-runs_into-c-requires c = let a = c.args in free-checked a.b a.blocks a.head.now a.tail.now c.check_in-found.ensures c.if-found-ne0.false
+pub runs_into-requires : goal.runs_into-requires
+runs_into-requires c = let a = c.args in free-checked a.b a.blocks a.head.now a.tail.now c.check_in-found.ensures c.if-found-ne0.false
 
 pub returns : goal.returns
-returns c = let a = c.args in free-given a.b a.blocks a.head.now a.tail.now c.check_in-found.ensures a.starts.now a.lengths.now c.if-found-ne0.false c.runs_into-c.ensures c.answer-2.ensures
+returns c = let a = c.args in free-given a.b a.blocks a.head.now a.tail.now c.check_in-found.ensures a.starts.now a.lengths.now c.if-found-ne0.false c.runs_into.ensures

@@ -22,9 +22,6 @@ use Rattle.windows_listing.proofs.payload_place.Goals as goal
 abbrev tests : ℕ → ℕ → ℕ → Tables → Why
 tests B s n t = used_check B n t s
 
-pub used_check_in-found-requires : goal.used_check_in-found-requires
-used_check_in-found-requires c = c.table-t.ensures
-
 pub returns-then-found-ne0 : goal.returns-then-found-ne0
 returns-then-found-ne0 c = let a = c.args in place-refused a.b a.blocks a.head.now a.tail.now a.slot.0 a.place.0 a.n c.used_check_in-found.ensures c.if-found-ne0.true c.reason.ensures
 

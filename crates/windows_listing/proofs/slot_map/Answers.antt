@@ -1,17 +1,17 @@
 -- `windows_listing::slot_map` meets its contract: the check first, and then the map of the head's front table. Assumes nothing.
-use Prim.Native.Nat.{◌+◌}
+use Prim.Native.Nat.{ℕ, ◌+◌}
 use native.Mathlib.Omega.{arith}
 use Rattle.units.proofs.Lists.{length-lent}
+use Rattle.tables.specs.Lens.{Tables}
 use Rattle.tables.specs.Check.{check}
+use Rattle.checking.proofs.CheckWays.{named-check}
+use Rattle.slot_map.specs.Map.{flags_from}
 use Rattle.windows.proofs.Ways.{why-fits}
-use Rattle.windows_listing.proofs.Ways.{map-refused, map-given}
+use Rattle.windows_listing.proofs.Ways.{refuses, map-given}
 use Rattle.windows_listing.proofs.slot_map.Goals as goal
 
-pub check_in-found-requires : goal.check_in-found-requires
-check_in-found-requires c = c.table-t.ensures
-
 pub returns-then-found-ne0 : goal.returns-then-found-ne0
-returns-then-found-ne0 c = let a = c.args in map-refused a.b a.blocks a.head.now a.tail.now c.check_in-found.ensures (record { low = 0; high = 0 }) c.if-found-ne0.true c.made.ensures
+returns-then-found-ne0 c = let a = c.args in refuses a.b a.blocks a.head.now a.tail.now (check a.b) (named-check a.b) c.check_in-found.ensures (λ (n : ℕ) (t : Tables). flags_from t.front.array 0 128) c.if-found-ne0.true c.reason.ensures
 
 pub overflow_add-front : goal.overflow_add-front
 overflow_add-front c = omega (arith, (let a = c.args in why-fits a.b a.blocks a.head.now a.tail.now (check a.b) c.check_in-found.ensures c.if-found-ne0.false).room.most)
@@ -29,4 +29,4 @@ map_of-requires c =
     (q.room.most, length-lent a.head.now a.b (a.b + 16384) (omega (arith, q.head-long)))
 
 pub returns : goal.returns
-returns c = let a = c.args in map-given a.b a.blocks a.head.now a.tail.now c.check_in-found.ensures c.map_of.result c.if-found-ne0.false c.made-2.ensures c.map_of.ensures
+returns c = let a = c.args in map-given a.b a.blocks a.head.now a.tail.now c.check_in-found.ensures c.map_of.result c.if-found-ne0.false c.map_of.ensures

@@ -1,7 +1,6 @@
 -- `windows_reader::read_slot` meets its contract. Assumes nothing.
 use mathlib.Core.Path.{sym, ap, ◌∙◌}
 use lib.ListN.{length}
-use Rattle.partition.specs.Meanings.{read_means}
 use Rattle.tables.specs.Lens.{side_of}
 use Rattle.windows_reader.proofs.Ways.{fits, array_long, read-refused, read-bad, read-given}
 use Rattle.windows_reader.proofs.read_slot.Goals as goal
@@ -9,12 +8,12 @@ use Rattle.windows_reader.proofs.read_slot.Goals as goal
 pub returns-then-found-ne0 : goal.returns-then-found-ne0
 returns-then-found-ne0 c =
     let a = c.args in
-    ap read_means c.refused.ensures ∙ read-refused a.b a.blocks a.head.now a.tail.now c.choose_in-found.ensures.0 a.slot.0 c.if-found-ne0.true c.refusal.ensures
+    read-refused a.b a.blocks a.head.now a.tail.now c.choose_in-found.ensures.0 a.slot.0 c.if-found-ne0.true c.refusal.ensures
 
 pub returns-then-bad_slot : goal.returns-then-bad_slot
 returns-then-bad_slot c =
     let a = c.args in
-    ap read_means c.refused-then-bad_slot.ensures ∙ read-bad a.b a.blocks a.head.now a.tail.now c.choose_in-found.ensures.0 c.if-found-ne0.false a.slot.0 c.bad_slot.ensures c.if-bad_slot.true
+    read-bad a.b a.blocks a.head.now a.tail.now c.choose_in-found.ensures.0 c.if-found-ne0.false a.slot.0 c.bad_slot.ensures c.if-bad_slot.true
 
 pub array_of-array-requires : goal.array_of-array-requires
 array_of-array-requires c = let a = c.args in let q = fits a.b a.blocks a.head.now a.tail.now c.choose_in-found.ensures.0 c.if-found-ne0.false in (q.room.most, q.head-long, q.tail-long)

@@ -24,19 +24,19 @@ pub front_sum-parts-requires : goal.front_sum-parts-requires
 front_sum-parts-requires c =
     let room : (room_check c.args.b (length c.args.img.now)).number ≡ 0 = (check-good c.args.b (length c.args.img.now) (tables c.args.b c.args.img.now) c.requires.img_value).room in
     let r = room-ok _ _ room in
-    record { rows = c.requires.rows; len_value = (room, omega (arith, r.low, r.seam, r.top)); b_value = image-front c.args.b c.args.img.now c.requires.img_value; slot_value = c.requires.slot_value }
+    record { len_value = (room, omega (arith, r.low, r.seam, r.top)); b_value = image-front c.args.b c.args.img.now c.requires.img_value; slot_value = c.requires.slot_value }
 
 pub change_at-requires : goal.change_at-requires
 change_at-requires c =
     let room : (room_check c.args.b (length c.args.img.now)).number ≡ 0 = (check-good c.args.b (length c.args.img.now) (tables c.args.b c.args.img.now) c.requires.img_value).room in
-    record { rows = c.requires.rows; len_value = (room, omega (arith, c.back_place-back.ensures.1)); slot_value = c.requires.slot_value }
+    record { len_value = (room, omega (arith, c.back_place-back.ensures.1)); slot_value = c.requires.slot_value }
 
 pub change_at-requires-2 : goal.change_at-requires-2
 change_at-requires-2 c =
     let one-length : length c.change_at.new.s ≡ length c.args.img.now = ap length c.change_at.ensures ∙ simp length-sets in
     let room : (room_check c.args.b (length c.args.img.now)).number ≡ 0 = (check-good c.args.b (length c.args.img.now) (tables c.args.b c.args.img.now) c.requires.img_value).room in
     let r = room-ok _ _ room in
-    record { rows = c.requires.rows; len_value = (room, omega (arith, one-length, r.low, r.seam, r.top)); slot_value = c.requires.slot_value }
+    record { len_value = (room, omega (arith, one-length, r.low, r.seam, r.top)); slot_value = c.requires.slot_value }
 
 pub shape_of-img : goal.shape_of-img
 shape_of-img c =

@@ -28,7 +28,7 @@ slice_bounds-change_copy-end c = omega (arith, c.requires.len_value.1)
 pub change_copy-requires : goal.change_copy-requires
 change_copy-requires c =
     let a = c.args in
-    record { rows = c.requires.rows; len_value = (c.requires.len_value.0, length-lent a.s.now a.place.0 (a.b + 16384) c.requires.len_value.1); slot_value = c.requires.slot_value }
+    record { len_value = (c.requires.len_value.0, length-lent a.s.now a.place.0 (a.b + 16384) c.requires.len_value.1); slot_value = c.requires.slot_value }
 
 pub shape_of-s : goal.shape_of-s
 shape_of-s c =

@@ -22,7 +22,7 @@ put_slot-requires c =
 pub put_header-requires : goal.put_header-requires
 put_header-requires c =
     let slot-length : length c.put_slot.new.copy ≡ length c.args.copy.now = ap length c.put_slot.ensures ∙ simp length-sets in
-    record { rows = c.requires.rows; len_value = (c.requires.len_value.0, slot-length ∙ c.requires.len_value.1) }
+    (c.requires.len_value.0, slot-length ∙ c.requires.len_value.1)
 
 pub returns : goal.returns
 returns c =

@@ -2,7 +2,7 @@
 use mathlib.Core.Path.{◌≡◌}
 use mathlib.Core.Bool.{true, false}
 use mathlib.Core.List.{List}
-use Prim.Native.Nat.{ℕ, ◌-◌, ◌≤◌, ◌<◌}
+use Prim.Native.Nat.{ℕ, ◌<◌}
 use lib.Dec.{eqb}
 use Rattle.units.specs.Answer.{pick}
 use Rattle.units.specs.Bytes.{part}
@@ -11,8 +11,4 @@ use Rattle.card.proofs.changing.first_overlap.Given as goal
 
 abbrev pub invariant-loop-j : goal.invariant-loop-j
 invariant-loop-j l =
-    (l.j ≤ 128)
-    × ((e : List ℕ) → used e ≡ true → l.first.0 ≡ first_of e → l.last.0 ≡ last_of e → (i : ℕ) → i < l.j → pick (eqb i l.k) false (overlaps e (entry (part l.copy l.at.0 16384) i)) ≡ false)
-
-abbrev pub decreases-loop-j : goal.decreases-loop-j
-decreases-loop-j l = 128 - l.j
+    (e : List ℕ) → used e ≡ true → l.first.0 ≡ first_of e → l.last.0 ≡ last_of e → (i : ℕ) → i < l.j → pick (eqb i l.k) false (overlaps e (entry (part l.copy l.at.0 16384) i)) ≡ false

@@ -22,7 +22,7 @@ slice_bounds-sum_with-end c = omega (arith, c.requires.len_value.1)
 pub sum_with-requires : goal.sum_with-requires
 sum_with-requires c =
     let a = c.args in
-    record { rows = c.requires.rows; len_value = (c.requires.len_value.0, length-lent a.s.now a.b (a.b + 16384) c.requires.len_value.1); copy_value = rw (lent-part a.s.now a.b (a.b + 16384)) c.requires.b_value; slot_value = c.requires.slot_value }
+    record { len_value = (c.requires.len_value.0, length-lent a.s.now a.b (a.b + 16384) c.requires.len_value.1); copy_value = rw (lent-part a.s.now a.b (a.b + 16384)) c.requires.b_value; slot_value = c.requires.slot_value }
 
 pub returns : goal.returns
 returns c =

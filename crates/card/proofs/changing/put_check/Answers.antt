@@ -13,9 +13,6 @@ use Rattle.card.proofs.CopyLaws.{lent-front, lent_fits}
 use Rattle.card.proofs.ChangeWays.{put-checked, put-entry}
 use Rattle.card.proofs.changing.put_check.Goals as goal
 
-pub check_with-found-requires : goal.check_with-found-requires
-check_with-found-requires c = c.requires.0
-
 pub returns-then-found-ne0 : goal.returns-then-found-ne0
 returns-then-found-ne0 c = put-checked _ _ _ _ _ _ c.check_with-found.ensures c.if-found-ne0.true
 
@@ -38,7 +35,7 @@ pub entry_check-requires : goal.entry_check-requires
 entry_check-requires c =
     let room : let a = c.args in (room_check a.b (length a.img.now)).number ≡ 0 = let a = c.args in (check-good a.b (length a.img.now) (tables a.b a.img.now) (sym (number-of c.check_with-found.ensures) ∙ c.if-found-ne0.false)).room in
     let r = room in
-    (r, length-lent c.args.img.now c.args.b (c.args.b + 16384) (lent_fits _ _ (room-ok _ _ r)), c.requires.1)
+    (r, length-lent c.args.img.now c.args.b (c.args.b + 16384) (lent_fits _ _ (room-ok _ _ r)), c.requires)
 
 pub returns : goal.returns
 returns c =

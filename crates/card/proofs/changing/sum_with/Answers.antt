@@ -5,8 +5,8 @@ use Rattle.tables.proofs.Good.{room-ok}
 use Rattle.card.proofs.CopyLaws.{sum-held, sum-changed}
 use Rattle.card.proofs.changing.sum_with.Goals as goal
 
-pub u32_at-sum-requires : goal.u32_at-sum-requires
-u32_at-sum-requires c =
+pub get-sum-requires : goal.get-sum-requires
+get-sum-requires c =
     let r = room-ok _ _ c.requires.len_value.0 in
     omega (arith, r.least, c.header_in-header.ensures.1, c.requires.len_value.1)
 
@@ -24,5 +24,5 @@ returns c =
     let a = c.args in
     let r = room-ok _ _ c.requires.len_value.0 in
     sum-changed a.b (side_of a.back) a.copy.now a.e.now a.slot.0 c.requires.slot_value.0 c.requires.len_value.1 c.requires.slot_value.1
-    (sum-held a.b a.len (side_of a.back) a.copy.now c.header_in-header.ensures.0 (omega (arith, r.least)) c.requires.copy_value c.u32_at-sum.ensures)
+    (sum-held a.b a.len (side_of a.back) a.copy.now c.header_in-header.ensures.0 (omega (arith, r.least)) c.requires.copy_value c.get-sum.ensures)
     c.slot_in-place.ensures.0 c.bytes_after-after.ensures c.sum_after.ensures

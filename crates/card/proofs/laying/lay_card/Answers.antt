@@ -21,7 +21,7 @@ pub lay_at-requires : goal.lay_at-requires
 lay_at-requires c =
     let mbr-put : let a = c.args in c.put_mbr.new.img ≡ sets a.img.now 0 (mbr (blocks a.b (length a.img.now) - 1)) = let a = c.args in c.put_mbr.ensures ∙ ap (λ (l : Lba). sets a.img.now 0 (mbr l.0)) c.own_block.ensures in
     let one : length c.put_mbr.new.img ≡ length c.args.img.now = ap length (mbr-put) ∙ (simp length-sets) in
-    record { rows = c.table-t.ensures; len_value = (c.requires, omega (arith, one, c.back_place-back.ensures.1)) }
+    (c.requires, omega (arith, one, c.back_place-back.ensures.1))
 
 pub lay_at-requires-2 : goal.lay_at-requires-2
 lay_at-requires-2 c =
@@ -29,7 +29,7 @@ lay_at-requires-2 c =
     let one : length c.put_mbr.new.img ≡ length c.args.img.now = ap length (mbr-put) ∙ (simp length-sets) in
     let two : length c.lay_at.new.s ≡ length c.args.img.now = ap length c.lay_at.ensures ∙ (simp length-sets) ∙ one in
     let room : Room c.args.b (length c.args.img.now) = room-ok _ _ c.requires in
-    let r = room in record { rows = c.table-t.ensures; len_value = (c.requires, omega (arith, two, r.low, r.seam, r.top)) }
+    let r = room in (c.requires, omega (arith, two, r.low, r.seam, r.top))
 
 pub shape_of-img : goal.shape_of-img
 shape_of-img c =

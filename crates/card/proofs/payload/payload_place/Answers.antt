@@ -17,9 +17,6 @@ use Rattle.card.proofs.CopyLaws.{lent-front, lent_fits}
 use Rattle.card.proofs.PayWays.{used-slot, used-room, used-spanned, pay-refused, pay-placed}
 use Rattle.card.proofs.payload.payload_place.Goals as goal
 
-pub used_check-found-requires : goal.used_check-found-requires
-used_check-found-requires c = c.table-t.ensures
-
 pub returns-then-found-ne0 : goal.returns-then-found-ne0
 returns-then-found-ne0 c = let a = c.args in pay-refused a.b (length a.img.now) (tables a.b a.img.now) a.slot.0 a.place.0 a.n _ c.used_check-found.ensures c.if-found-ne0.true c.reason.ensures
 

@@ -17,9 +17,6 @@ use Rattle.card.proofs.CopyLaws.{lent-front, lent_fits}
 use Rattle.card.proofs.PayWays.{used-checked, used-not, used-fine}
 use Rattle.card.proofs.payload.used_check.Goals as goal
 
-pub slot_check-found-requires : goal.slot_check-found-requires
-slot_check-found-requires c = c.requires
-
 pub returns-then-found-ne0 : goal.returns-then-found-ne0
 returns-then-found-ne0 c = used-checked _ _ _ _ c.slot_check-found.ensures c.if-found-ne0.true
 

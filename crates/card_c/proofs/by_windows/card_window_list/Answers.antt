@@ -13,4 +13,4 @@ returns c =
     let m = length a.out.now / 136 in
     rows_told card_count_to_c a.head.now a.out.now c.plan_in-p.result c.plan_in-p.ensures.1
     (window-within a.b a.blocks a.head.now a.tail.now m (card_entries a.b) (λ (xs : List ℕ). listing_read a.b xs m) (λ xs. listed-within a.b xs m))
-    c.fill_bytes-q.ensures (c.card_count_to_c.ensures ∙ ap card_count_to_c c.count_by.ensures)
+    c.fill_bytes-q.ensures (c.into.ensures ∙ ap card_count_to_c c.count_by.ensures)

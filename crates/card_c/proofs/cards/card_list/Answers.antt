@@ -7,4 +7,4 @@ use Rattle.card_c.proofs.cards.card_list.Goals as goal
 
 pub returns : goal.returns
 returns c =
-    rows_told card_count_to_c c.args.img.now c.args.out.now c.plan_of-p.result c.plan_of-p.ensures.1 (listed-within c.args.b c.args.img.now _) c.fill_bytes-q.ensures (c.card_count_to_c.ensures ∙ ap card_count_to_c c.count_by.ensures)
+    rows_told card_count_to_c c.args.img.now c.args.out.now c.plan_of-p.result c.plan_of-p.ensures.1 (listed-within c.args.b c.args.img.now _) c.fill_bytes-q.ensures (c.into.ensures ∙ ap card_count_to_c c.count_by.ensures)

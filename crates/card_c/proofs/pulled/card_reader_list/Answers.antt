@@ -7,4 +7,4 @@ use Rattle.card_c.proofs.pulled.card_reader_list.Goals as goal
 
 pub returns : goal.returns
 returns c =
-    rows_told count_to_c c.args.img.now c.args.out.now c.plan_of-p.result c.plan_of-p.ensures.1 (read-within c.args.b c.args.img.now _) c.fill_bytes-q.ensures (c.count_to_c.ensures ∙ ap count_to_c c.answer.ensures ∙ count-plainly _)
+    rows_told count_to_c c.args.img.now c.args.out.now c.plan_of-p.result c.plan_of-p.ensures.1 (read-within c.args.b c.args.img.now _) c.fill_bytes-q.ensures (c.into.ensures ∙ ap count_to_c c.answer.ensures ∙ count-plainly _)

@@ -14,4 +14,4 @@ returns c =
     let m = length a.out.now / 136 in
     rows_told count_to_c _ a.out.now c.plan_in-p.result (ap (λ (l : List ℕ). planned l c.plan_in-p.result) c.good_part-part.ensures.result_value ∙ c.plan_in-p.ensures.1)
     (window-within a.b a.blocks a.head.now a.tail.now m (reader_entries a.b) (λ (xs : List ℕ). reader_read a.b xs m) (λ xs. read-within a.b xs m))
-    c.fill_bytes-q.ensures (c.count_to_c.ensures ∙ ap count_to_c c.answer.ensures ∙ count-plainly _)
+    c.fill_bytes-q.ensures (c.into.ensures ∙ ap count_to_c c.answer.ensures ∙ count-plainly _)

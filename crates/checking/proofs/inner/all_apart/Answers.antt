@@ -14,10 +14,10 @@ use Rattle.checking.proofs.OrderLaws.{below_none, below_more}
 use Rattle.checking.proofs.inner.all_apart.Goals as goal
 
 pub loop-k-init : goal.loop-k-init
-loop-k-init c = (omega arith, all_start _, below_none _ _)
+loop-k-init c = (all_start _, below_none _ _)
 
 pub apart_from-requires : goal.apart_from-requires
-apart_from-requires c = let l = c.loop-k in record { at_in_bounds = (c.requires, omega arith); below = l.invariant.2 }
+apart_from-requires c = let l = c.loop-k in record { at_in_bounds = (c.requires, omega arith); below = l.invariant.1 }
 
 pub returns-then-not-apart_from : goal.returns-then-not-apart_from
 returns-then-not-apart_from c =
@@ -25,18 +25,15 @@ returns-then-not-apart_from c =
     sym (all-fails 128 _ c.loop-k.k (omega arith) (sym c.apart_from.ensures ∙ not-true _ (ap not c.if-not-apart_from.true)))
     ∙ square (part a.img.now a.at.0 16384)
 
-pub greatest_last-top-requires : goal.greatest_last-top-requires
-greatest_last-top-requires c = omega (arith, c.entry_place.ensures)
-
 pub loop-k-preserved : goal.loop-k-preserved
 loop-k-preserved c =
     let l = c.loop-k in
     let a = c.args in
     let e = c.greatest_last-top.ensures ∙ ap (λ (e : List ℕ). greatest_last e l.top.0) (sym (entry_at a.img.now a.at.0 l.k (omega arith) c.entry_place.ensures)) in
-    (omega arith, all_more l.k _ l.invariant.1 (sym c.apart_from.ensures ∙ not-false _ (ap not c.if-not-apart_from.false)), below_more (part a.img.now a.at.0 16384) l.k l.top.0 l.invariant.2 e)
+    (all_more l.k _ l.invariant.0 (sym c.apart_from.ensures ∙ not-false _ (ap not c.if-not-apart_from.false)), below_more (part a.img.now a.at.0 16384) l.k l.top.0 l.invariant.1 e)
 
 pub returns : goal.returns
 returns c =
     let a = c.args in
     let l = c.loop-k in
-    all_end l.k 128 _ (omega arith) (omega arith) l.invariant.1 ∙ square (part a.img.now a.at.0 16384)
+    all_end l.k 128 _ (omega arith) (omega arith) l.invariant.0 ∙ square (part a.img.now a.at.0 16384)

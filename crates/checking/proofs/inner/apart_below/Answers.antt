@@ -11,26 +11,14 @@ use Rattle.tables.proofs.EntryLaws.{entry_at, own-used}
 use Rattle.checking.proofs.CheckWays.{overlaps-unused, own_first, own-last}
 use Rattle.checking.proofs.inner.apart_below.Goals as goal
 
-pub nil_type_at-requires : goal.nil_type_at-requires
-nil_type_at-requires c = omega (arith, c.entry_place-own.ensures)
-
 pub returns-then-nil_type_at : goal.returns-then-nil_type_at
 returns-then-nil_type_at c =
     let a = c.args in
     let z = c.nil_type_at.ensures ∙ ap (λ (o : ℕ). all_zero (part a.img.now o 16)) c.entry_place-own.ensures in
     sym (all_of a.k _ (λ j h. ap not (overlaps-unused _ _ (own-used a.img.now a.at.0 a.k (omega arith) z ∙ ap not c.if-nil_type_at.true))))
 
-pub first_at-first-requires : goal.first_at-first-requires
-first_at-first-requires c = omega (arith, c.entry_place-own.ensures)
-
-pub last_at-last-requires : goal.last_at-last-requires
-last_at-last-requires c = omega (arith, c.entry_place-own.ensures)
-
 pub loop-j-init : goal.loop-j-init
-loop-j-init c = (omega arith, all_start _)
-
-pub overlaps-requires : goal.overlaps-requires
-overlaps-requires c = omega (arith, c.entry_place.ensures)
+loop-j-init c = all_start _
 
 -- whether entry j shares a block with entry k, as the code finds it
 found : {r z : Bool} (xs : List ℕ) (at k j : ℕ) {o p f l : ℕ} → k < 128 → j < 128 → o ≡ at + 128 * k → p ≡ at + 128 * j
@@ -51,7 +39,7 @@ returns-then-overlaps c =
 pub loop-j-preserved : goal.loop-j-preserved
 loop-j-preserved c =
     let l = c.loop-j in
-    (omega arith, all_more l.j _ l.invariant.1 (ap not (sym (found c.args.img.now c.args.at.0 c.args.k c.loop-j.j (omega arith) (omega arith) c.entry_place-own.ensures c.entry_place.ensures c.nil_type_at.ensures c.if-nil_type_at.false c.first_at-first.ensures c.last_at-last.ensures c.overlaps.ensures) ∙ c.if-overlaps.false)))
+    all_more l.j _ l.invariant (ap not (sym (found c.args.img.now c.args.at.0 c.args.k c.loop-j.j (omega arith) (omega arith) c.entry_place-own.ensures c.entry_place.ensures c.nil_type_at.ensures c.if-nil_type_at.false c.first_at-first.ensures c.last_at-last.ensures c.overlaps.ensures) ∙ c.if-overlaps.false))
 
 pub returns : goal.returns
-returns c = all_end c.loop-j.j _ _ (omega arith) (omega arith) c.loop-j.invariant.1
+returns c = all_end c.loop-j.j _ _ (omega arith) (omega arith) c.loop-j.invariant

@@ -7,9 +7,6 @@ use Rattle.tables.specs.Lens.{tables}
 use Rattle.checking.proofs.CheckWays.{named-check}
 use Rattle.checking.proofs.inner.check.Goals as goal
 
-pub check_with-found-requires : goal.check_with-found-requires
-check_with-found-requires c = c.table-t.ensures
-
 pub returns : goal.returns
 returns c =
     let a = c.args in

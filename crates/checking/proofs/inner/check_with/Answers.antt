@@ -21,14 +21,8 @@ room b n e z = sym e ∙ z
 pub back_place-at-requires : goal.back_place-at-requires
 back_place-at-requires c = (room c.args.b (length c.args.img.now) c.room_check-room.ensures c.if-room-ne0.false)
 
-pub overflow_add-size : goal.overflow_add-size
-overflow_add-size c = omega (arith, (room-ok _ _ (room c.args.b (length c.args.img.now) c.room_check-room.ensures c.if-room-ne0.false)).most)
-
 pub slice_bounds-copies_check-end : goal.slice_bounds-copies_check-end
 slice_bounds-copies_check-end c = let r = room-ok _ _ (room c.args.b (length c.args.img.now) c.room_check-room.ensures c.if-room-ne0.false) in omega (arith, r.low, r.seam, r.top)
-
-pub slice_bounds-copies_check-end-2 : goal.slice_bounds-copies_check-end-2
-slice_bounds-copies_check-end-2 c = omega (arith, c.back_place-at.ensures.1)
 
 pub copies_check-requires : goal.copies_check-requires
 copies_check-requires c =
@@ -37,7 +31,7 @@ copies_check-requires c =
     let a = s.args in
     let r = room-ok _ _ (room c.args.b (length c.args.img.now) c.room_check-room.ensures c.if-room-ne0.false) in
     let back = p.back_place-at.ensures.1 in
-    record { rows = s.requires; len_value = ((room c.args.b (length c.args.img.now) c.room_check-room.ensures c.if-room-ne0.false), length-lent a.img.now a.b (a.b + 16384) (omega (arith, r.low, r.seam, r.top)), length-lent a.img.now p.back_place-at.result.0 (a.b + 16384) back) }
+    ((room c.args.b (length c.args.img.now) c.room_check-room.ensures c.if-room-ne0.false), length-lent a.img.now a.b (a.b + 16384) (omega (arith, r.low, r.seam, r.top)), length-lent a.img.now p.back_place-at.result.0 (a.b + 16384) back)
 
 pub returns : goal.returns
 returns c =

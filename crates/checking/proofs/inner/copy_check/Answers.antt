@@ -21,7 +21,7 @@ pub header_at-h-requires : goal.header_at-h-requires
 header_at-h-requires c = let s = c in let r = room-ok _ _ s.requires.len_value.0 in omega (arith, r.least, c.header_in-at.ensures.1, s.requires.len_value.1)
 
 pub header_sum_at-requires : goal.header_sum_at-requires
-header_sum_at-requires c = let s = c in let r = room-ok _ _ s.requires.len_value.0 in record { rows = s.requires.rows; at_in_bounds = omega (arith, r.least, c.header_in-at.ensures.1, s.requires.len_value.1) }
+header_sum_at-requires c = let s = c in let r = room-ok _ _ s.requires.len_value.0 in omega (arith, r.least, c.header_in-at.ensures.1, s.requires.len_value.1)
 
 pub returns-then-header_sum_at-h : goal.returns-then-header_sum_at-h
 returns-then-header_sum_at-h c =

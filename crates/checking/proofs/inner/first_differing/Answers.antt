@@ -15,13 +15,7 @@ use Rattle.std.specs.Prelude.{not}
 use Rattle.checking.proofs.inner.first_differing.Goals as goal
 
 pub loop-k-init : goal.loop-k-init
-loop-k-init c = (omega arith, λ i h. absurd (omega arith))
-
-pub entry_place-one-requires : goal.entry_place-one-requires
-entry_place-one-requires c = let s = c in omega (arith, s.array_in-array.ensures.1, s.requires.0)
-
-pub entry_place-two-requires : goal.entry_place-two-requires
-entry_place-two-requires c = let s = c in omega (arith, s.array_in-other.ensures.1, s.requires.0)
+loop-k-init c i h = absurd (omega arith)
 
 pub same_in-requires : goal.same_in-requires
 same_in-requires c =
@@ -43,18 +37,18 @@ returns-then-not-same_in c =
     let a = c.args in
     let x : List ℕ = (copy_in a.b Front a.front.now).array in
     let y : List ℕ = (copy_in a.b Back a.back.now).array in
-    c.slot_at.ensures ∙ ap (λ (k : ℕ). record { 0 = k + 1 }) (differ-first x y c.loop-k.k (omega arith) c.loop-k.invariant.1 (sym (told a.b c.loop-k.k a.front.now a.back.now c.array_in-array.result.0 c.array_in-other.result.0 (omega arith) (array_of a.b Front a.front.now c.array_in-array.ensures.0) (array_of a.b Back a.back.now c.array_in-other.ensures.0) c.entry_place-one.ensures c.entry_place-two.ensures c.same_in.ensures) ∙ not-true _ (ap not c.if-not-same_in.true)))
+    c.slot_at.ensures ∙ ap (λ (k : ℕ). record { 0 = k + 1 }) (differ-first x y c.loop-k.k (omega arith) c.loop-k.invariant (sym (told a.b c.loop-k.k a.front.now a.back.now c.array_in-array.result.0 c.array_in-other.result.0 (omega arith) (array_of a.b Front a.front.now c.array_in-array.ensures.0) (array_of a.b Back a.back.now c.array_in-other.ensures.0) c.entry_place-one.ensures c.entry_place-two.ensures c.same_in.ensures) ∙ not-true _ (ap not c.if-not-same_in.true)))
 
 pub loop-k-preserved : goal.loop-k-preserved
 loop-k-preserved c =
     let a = c.args in
     let x : List ℕ = (copy_in a.b Front a.front.now).array in
     let y : List ℕ = (copy_in a.b Back a.back.now).array in
-    (omega arith, differ-more x y c.loop-k.k c.loop-k.invariant.1 (sym (told a.b c.loop-k.k a.front.now a.back.now c.array_in-array.result.0 c.array_in-other.result.0 (omega arith) (array_of a.b Front a.front.now c.array_in-array.ensures.0) (array_of a.b Back a.back.now c.array_in-other.ensures.0) c.entry_place-one.ensures c.entry_place-two.ensures c.same_in.ensures) ∙ not-false _ (ap not c.if-not-same_in.false)))
+    differ-more x y c.loop-k.k c.loop-k.invariant (sym (told a.b c.loop-k.k a.front.now a.back.now c.array_in-array.result.0 c.array_in-other.result.0 (omega arith) (array_of a.b Front a.front.now c.array_in-array.ensures.0) (array_of a.b Back a.back.now c.array_in-other.ensures.0) c.entry_place-one.ensures c.entry_place-two.ensures c.same_in.ensures) ∙ not-false _ (ap not c.if-not-same_in.false))
 
 pub returns : goal.returns
 returns c =
     let a = c.args in
     let x : List ℕ = (copy_in a.b Front a.front.now).array in
     let y : List ℕ = (copy_in a.b Back a.back.now).array in
-    c.slot_at-2.ensures ∙ ap (λ (k : ℕ). record { 0 = k + 1 }) (differ-none x y c.loop-k.k (omega arith) c.loop-k.invariant.1)
+    c.slot_at-2.ensures ∙ ap (λ (k : ℕ). record { 0 = k + 1 }) (differ-none x y c.loop-k.k (omega arith) c.loop-k.invariant)

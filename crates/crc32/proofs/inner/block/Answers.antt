@@ -8,6 +8,6 @@ returns c =
     let a = c.args in
     cc (
       xor-turn c.four-4.result c.four-3.result c.four-2.result c.four.result,
-      block-feed a.s.now a.i a.r c.word_at-4.result c.word_at-3.result c.word_at-2.result c.word_at.result
+      block-feed a.b.now a.r c.word_at-4.result c.word_at-3.result c.word_at-2.result c.word_at.result c.requires
           c.word_at-4.ensures c.word_at-3.ensures c.word_at-2.ensures c.word_at.ensures,
     )

@@ -1,18 +1,13 @@
--- `inner::words` meets its contract. The invariant: the register at i, fed with what is left, is what the whole rest feeds.
--- Assumes nothing.
-use mathlib.Core.Path.{refl, ◌∙◌}
-use borrow.Author.Rules.{rules}
-use Rattle.crc32.proofs.Laws.{feed-block}
+-- A word more is fed, and the rest is what the slice has behind it. Assumes nothing.
+use mathlib.Core.Path.{ap, ◌∙◌}
+use Rattle.std.proofs.lemmas.List.{take_all}
+use native.Mathlib.Omega.{arith}
+use Rattle.crc32.specs.Crc.{feed}
+use Rattle.crc32.proofs.Laws.{feed-front}
 use Rattle.crc32.proofs.inner.words.Goals as goal
 
-pub loop-i-init : goal.loop-i-init
-loop-i-init c = (search rules, refl)
-
-pub loop-i-preserved : goal.loop-i-preserved
-loop-i-preserved c =
-    let a = c.args in
-    let l = c.loop-i in
-    (search rules, cc (c.word_at.ensures l.x, feed-block a.s.now 4 l.i l.x))
-
-pub returns : goal.returns
-returns c = c.bytes.ensures ∙ c.loop-i.invariant.1
+pub loop-b-preserved : goal.loop-b-preserved
+loop-b-preserved c =
+    let e = c.in-Some.ensures.cases in
+    feed-front _ _ _ 4 _ _ e.0 e.1 (c.four-x.ensures ∙ c.word_at.ensures _ ∙ ap (feed _) (take_all 4 c.in-Some.b.now (omega arith)))
+    ∙ c.loop-b.invariant

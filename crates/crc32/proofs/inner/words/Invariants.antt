@@ -1,13 +1,10 @@
--- `inner::words` meets its contract. The invariant: the register at i, fed with what is left, is what the whole rest feeds.
--- Assumes nothing.
-use mathlib.Core.Path.{◌≡◌}
-use Prim.Native.Nat.{◌≤◌, ◌-◌}
-use lib.ListN.{length, drop}
+-- The register, fed with what is left, is what the whole slice feeds. Assumes nothing.
+use Rattle.std.proofs.Common.{◌≡◌, length}
 use Rattle.crc32.specs.Crc.{feed}
 use Rattle.crc32.proofs.inner.words.Given as goal
 
-abbrev pub invariant-loop-i : goal.invariant-loop-i
-invariant-loop-i l = (l.i ≤ length l.s) × (feed l.x (drop l.i l.s) ≡ feed l.r (drop l.from l.s))
+abbrev pub invariant-loop-b : goal.invariant-loop-b
+invariant-loop-b l = feed l.x l.rest ≡ feed l.r l.s
 
-abbrev pub decreases-loop-i : goal.decreases-loop-i
-decreases-loop-i l = length l.s - l.i
+abbrev pub decreases-loop-b : goal.decreases-loop-b
+decreases-loop-b l = length l.rest

@@ -3,6 +3,7 @@ use mathlib.Core.Path.{sym, ◌∙◌}
 use Prim.Native.Nat.{◌*◌}
 use native.Mathlib.Omega.{arith}
 use Rattle.crc32.proofs.Zeros.{past-none, past-some}
+use Rattle.crc32.proofs.Tables.{powers-right}
 use Rattle.crc32.proofs.sparse.past.Goals as goal
 
 pub returns-then-n-eq0 : goal.returns-then-n-eq0
@@ -12,4 +13,4 @@ pub returns : goal.returns
 returns c =
     let s = c in
     let a = s.args in
-    c.carried.ensures (a.n * 1024) (c.powers-p.ensures.entry a.n (omega (arith, s.requires))) ∙ sym (past-some a.x a.n)
+    c.carried.ensures (a.n * 1024) (powers-right.entry a.n (omega (arith, s.requires))) ∙ sym (past-some a.x a.n)

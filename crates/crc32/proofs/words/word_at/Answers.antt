@@ -11,6 +11,6 @@ use Rattle.crc32.proofs.words.word_at.Goals as goal
 pub returns : goal.returns
 returns c =
     λ x.
-    ap (λ (w : ℕ). steps 32 (bit_xor x w)) c.word.ensures
+    ap (λ (w : ℕ). steps 32 (bit_xor x w)) c.from_le_bytes.ensures
     ∙ word-feed c.args.s.now c.args.i c.requires
     (λ k. omega (arith, c.type_inv.s k)) x

@@ -6,4 +6,4 @@ use Rattle.gpt_c.proofs.by_uefi.gpt_uefi_list_backup.Goals as goal
 
 pub returns : goal.returns
 returns c =
-    rows_told count_to_c c.args.img.now c.args.out.now c.plan_backup-p.result c.plan_backup-p.ensures.1 refl c.fill_bytes-q.ensures (c.count_to_c.ensures ∙ ap count_to_c c.answer.ensures ∙ count-plainly _)
+    rows_told count_to_c c.args.img.now c.args.out.now c.plan_backup-p.result c.plan_backup-p.ensures.1 refl c.fill_bytes-q.ensures (c.into.ensures ∙ ap count_to_c c.answer.ensures ∙ count-plainly _)

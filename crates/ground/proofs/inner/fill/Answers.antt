@@ -23,7 +23,7 @@ loop-i-init c =
     let p = c.array_in-array.ensures.0 in
     let q = ap (λ (l : Lba). l.0) c.first_usable-x.ensures in
     let e = all_left a.b a.len a.copy.now q p in
-    (starts-at a.b a.len a.copy.now s.requires.checked q p, omega (arith, ap (length {A = Run}) e, s.requires.n_value), refl, refl, ap (λ (l : List Run). sets a.starts.now 0 (map (λ (r : Run). r.start) l)) e, ap (λ (l : List Run). sets a.lengths.now 0 (map (λ (r : Run). r.blocks) l)) e)
+    (starts-at a.b a.len a.copy.now s.requires.checked q p, omega (arith, ap (length {A = Run}) e, s.requires.n_value), ap (λ (l : List Run). sets a.starts.now 0 (map (λ (r : Run). r.start) l)) e, ap (λ (l : List Run). sets a.lengths.now 0 (map (λ (r : Run). r.blocks) l)) e)
 
 pub next_run-g-requires : goal.next_run-g-requires
 next_run-g-requires c =
@@ -44,10 +44,8 @@ loop-i-preserved c =
     let e = next-some a.b a.len (part a.copy.now p.array_in-array.result.0 16384) n.next_run-g.ensures h in (
       n.next_run-g.ensures.at,
       omega (arith, k.invariant.1, ap (length {A = Run}) e),
-      length-set k.starts k.i n.next_run-g.result.start.0 ∙ k.invariant.2,
-      length-set k.lengths k.i n.next_run-g.result.blocks ∙ k.invariant.3,
-      row_more (λ (r : Run). r.start) k.starts k.i e ∙ k.invariant.4,
-      row_more (λ (r : Run). r.blocks) k.lengths k.i e ∙ k.invariant.5,
+      row_more (λ (r : Run). r.start) k.starts k.i e ∙ k.invariant.2,
+      row_more (λ (r : Run). r.blocks) k.lengths k.i e ∙ k.invariant.3,
     )
 
 pub returns : goal.returns
@@ -59,4 +57,4 @@ returns c =
     let k = l.loop-i in
     let m = left a.b a.len (part a.copy.now p.array_in-array.result.0 16384) k.x.0 in
     let z : length m ≤ 0 = omega (arith, k.invariant.1) in
-    record { starts_after = sym (row-none (λ (r : Run). r.start) k.starts k.i m z) ∙ k.invariant.4; lengths_after = sym (row-none (λ (r : Run). r.blocks) k.lengths k.i m z) ∙ k.invariant.5 }
+    record { starts_after = sym (row-none (λ (r : Run). r.start) k.starts k.i m z) ∙ k.invariant.2; lengths_after = sym (row-none (λ (r : Run). r.blocks) k.lengths k.i m z) ∙ k.invariant.3 }

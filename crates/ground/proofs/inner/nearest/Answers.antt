@@ -10,7 +10,7 @@ use Rattle.ground.proofs.SearchLaws.{nearest-none, nearest-more}
 use Rattle.ground.proofs.inner.nearest.Goals as goal
 
 pub loop-k-init : goal.loop-k-init
-loop-k-init c = (omega arith, nearest-none _ _ _)
+loop-k-init c = nearest-none _ _ _
 
 pub nearer-best-requires : goal.nearer-best-requires
 nearer-best-requires c = omega (arith, c.entry_place.ensures)
@@ -20,11 +20,11 @@ loop-k-preserved c =
     let l = c.loop-k in
     let a = c.args in
     let e = c.nearer-best.ensures ∙ ap (λ (e : List ℕ). nearer_of e a.x.0 l.best) (sym (entry_at a.copy.now a.array.0 l.k (omega arith) c.entry_place.ensures)) in
-    (omega arith, nearest-more (part a.copy.now a.array.0 16384) l.k a.x.0 a.none l.best l.invariant.1 e)
+    nearest-more (part a.copy.now a.array.0 16384) l.k a.x.0 a.none l.best l.invariant e
 
 pub returns : goal.returns
 returns c =
     let l = c.loop-k in
     let a = c.args in
     let e : l.k ≡ 128 = omega arith in
-    subst (λ (k : ℕ). Nearest (part a.copy.now a.array.0 16384) k a.x.0 a.none l.best) e l.invariant.1
+    subst (λ (k : ℕ). Nearest (part a.copy.now a.array.0 16384) k a.x.0 a.none l.best) e l.invariant

@@ -13,7 +13,7 @@ pub returns-then-found-ne0 : goal.returns-then-found-ne0
 returns-then-found-ne0 c =
     let k = c in
     let a = k.args in
-    into-refused (front_runs a.b a.len a.copy.now) a.starts.now a.lengths.now k.count_runs-n.ensures k.rows_check-found.ensures c.if-found-ne0.true
+    into-refused (front_runs a.b a.len a.copy.now) a.starts.now a.lengths.now k.count_runs-n.ensures k.rows_check-found.ensures c.if-found-ne0.true c.reason.ensures
 
 pub fill-requires : goal.fill-requires
 fill-requires c =

@@ -1,12 +1,8 @@
--- `guid_text::inner::hex_at` meets its contract. Assumes nothing.
-use mathlib.Core.Path.{◌≡◌}
-use Prim.Native.Nat.{◌+◌, ◌-◌, ◌≤◌, ◌<◌, ◌^◌}
+-- What the digits so far come to, with those that are left behind it, is what all come to.
+use Rattle.std.proofs.Common.{◌≡◌, ◌+◌, ◌-◌, ◌<◌, ◌^◌}
 use Rattle.units.specs.Bytes.{part}
 use Rattle.guid_text.specs.Hex.{hex_after}
 use Rattle.guid_text.proofs.inner.hex_at.Given as goal
 
-abbrev pub invariant-loop-i : goal.invariant-loop-i
-invariant-loop-i l = (l.i ≤ l.n) × (hex_after l.v (part l.text (l.at + l.i) (l.n - l.i)) ≡ hex_after 0 (part l.text l.at l.n)) × (l.v < 16 ^ l.i)
-
-abbrev pub decreases-loop-i : goal.decreases-loop-i
-decreases-loop-i l = l.n - l.i
+abbrev pub invariant-loop-c : goal.invariant-loop-c
+invariant-loop-c l = (hex_after l.v (part l.text (l.at + l.c-index) (l.n - l.c-index)) ≡ hex_after 0 (part l.text l.at l.n)) × (l.v < 16 ^ l.c-index)

@@ -1,35 +1,46 @@
--- `header::inner::put_header` meets its contract: four stores, each where the one before it ends, are one. Assumes nothing.
-use mathlib.Core.Path.{refl, ap, ◌∙◌}
-use mathlib.Core.List.{List, ◌++◌}
-use Prim.Native.Nat.{ℕ, ◌+◌}
+-- `header::inner::put_header` meets its contract: fifteen stores, each where the one before it ends, are one. from80 is what is stored from place 80 on.
+-- Assumes nothing.
+use mathlib.Core.List.{◌++◌}
+use Prim.Native.Nat.{◌+◌}
 use native.Mathlib.Omega.{arith}
-use lib.Seq.{sets}
-use Rattle.units.specs.Bytes.{total, laid}
+use Rattle.units.specs.Bytes.{bytes}
 use Rattle.units.specs.Guids.{guid_bytes}
 use Rattle.units.proofs.Lists.{and_then}
-use Rattle.units.proofs.Laws.{length-laid}
+use Rattle.units.proofs.Laws.{field_then}
 use Rattle.units.proofs.GuidLaws.{length-guid}
 use Rattle.header.specs.Format.{signature}
-use Rattle.header.proofs.Laws.{low_widths, low, high_widths, high, low-total, laid-header}
 use Rattle.header.proofs.inner.put_header.Goals as goal
-
-pub put_fields-requires : goal.put_fields-requires
-unfolding total
-put_fields-requires c = (refl, omega arith)
-
-pub put_fields-requires-2 : goal.put_fields-requires-2
-unfolding total
-put_fields-requires-2 c = (refl, omega arith)
 
 pub returns : goal.returns
 returns c =
-    let s = c.args.s.now in
     let at = c.args.at in
     let h = c.args.h in
-    let L : List ℕ = laid low_widths (low h) in
-    let G : List ℕ = guid_bytes h.disk_guid in
-    let R : List ℕ = laid high_widths (high h) in
-    and_then s at signature (at + 8) (L ++ (G ++ R)) (omega arith) c.put_bytes.ensures
-    (and_then _ (at + 8) L (at + 56) (G ++ R) (omega (arith, length-laid low_widths (low h) refl, low-total)) c.put_fields.ensures
-    (and_then _ (at + 56) G (at + 72) R (omega (arith, length-guid h.disk_guid)) c.put_guid.ensures c.put_fields-2.ensures))
-    ∙ ap (sets s at) (laid-header h)
+    let from88 = bytes 4 h.crc32_parts in
+    let from84 = bytes 4 h.part_size ++ from88 in
+    let from80 = bytes 4 h.num_parts ++ from84 in
+    let from72 = bytes 8 h.part_start.0 ++ from80 in
+    let from56 = guid_bytes h.disk_guid ++ from72 in
+    let from48 = bytes 8 h.last_usable.0 ++ from56 in
+    let from40 = bytes 8 h.first_usable.0 ++ from48 in
+    let from32 = bytes 8 h.backup_lba.0 ++ from40 in
+    let from24 = bytes 8 h.current_lba.0 ++ from32 in
+    let from20 = bytes 4 h.reserved ++ from24 in
+    let from16 = bytes 4 h.crc32 ++ from20 in
+    let from12 = bytes 4 h.header_size_le ++ from16 in
+    let from10 = bytes 2 h.revision.0 ++ from12 in
+    let from8 = bytes 2 h.revision.1 ++ from10 in
+    and_then _ at signature (at + 8) from8 (omega arith) c.put_bytes.ensures
+    (field_then _ (at + 8) 2 h.revision.1 (at + 10) from10 (omega arith) c.put.ensures
+    (field_then _ (at + 10) 2 h.revision.0 (at + 12) from12 (omega arith) c.put-2.ensures
+    (field_then _ (at + 12) 4 h.header_size_le (at + 16) from16 (omega arith) c.put-3.ensures
+    (field_then _ (at + 16) 4 h.crc32 (at + 20) from20 (omega arith) c.put-4.ensures
+    (field_then _ (at + 20) 4 h.reserved (at + 24) from24 (omega arith) c.put-5.ensures
+    (field_then _ (at + 24) 8 h.current_lba.0 (at + 32) from32 (omega arith) c.put-6.ensures
+    (field_then _ (at + 32) 8 h.backup_lba.0 (at + 40) from40 (omega arith) c.put-7.ensures
+    (field_then _ (at + 40) 8 h.first_usable.0 (at + 48) from48 (omega arith) c.put-8.ensures
+    (field_then _ (at + 48) 8 h.last_usable.0 (at + 56) from56 (omega arith) c.put-9.ensures
+    (and_then _ (at + 56) (guid_bytes h.disk_guid) (at + 72) from72 (omega (arith, length-guid h.disk_guid)) c.put_guid.ensures
+    (field_then _ (at + 72) 8 h.part_start.0 (at + 80) from80 (omega arith) c.put-10.ensures
+    (field_then _ (at + 80) 4 h.num_parts (at + 84) from84 (omega arith) c.put-11.ensures
+    (field_then _ (at + 84) 4 h.part_size (at + 88) from88 (omega arith) c.put-12.ensures
+    c.put-13.ensures)))))))))))))

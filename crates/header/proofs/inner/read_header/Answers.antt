@@ -21,19 +21,19 @@ returns-then-not-same_at c = rw (← c.is_inside.ensures, (ap not c.if-not-is_in
 pub header_at-h-requires : goal.header_at-h-requires
 header_at-h-requires c = inside-yes _ _ _ c.is_inside.ensures (ap not c.if-not-is_inside.false)
 
-pub header_sum_once-requires : goal.header_sum_once-requires
-header_sum_once-requires c = inside-yes _ _ _ c.is_inside.ensures (ap not c.if-not-is_inside.false)
+pub header_sum_at-requires : goal.header_sum_at-requires
+header_sum_at-requires c = inside-yes _ _ _ c.is_inside.ensures (ap not c.if-not-is_inside.false)
 
-pub returns-then-header_sum_once-h : goal.returns-then-header_sum_once-h
-returns-then-header_sum_once-h c =
+pub returns-then-header_sum_at-h : goal.returns-then-header_sum_at-h
+returns-then-header_sum_at-h c =
     let signed = c in
     let inside = signed in
     read-other _ _ inside.is_inside.ensures (ap not inside.if-not-is_inside.false) signed.same_at.ensures (ap not signed.if-not-same_at.false)
-    c.header_at-h.ensures c.header_sum_once.ensures c.if-header_sum_once-h.true
+    c.header_at-h.ensures c.header_sum_at.ensures c.if-header_sum_at-h.true
 
 pub returns : goal.returns
 returns c =
     let signed = c in
     let inside = signed in
     read-good _ _ inside.is_inside.ensures (ap not inside.if-not-is_inside.false) signed.same_at.ensures (ap not signed.if-not-same_at.false)
-    c.header_at-h.ensures c.header_sum_once.ensures c.if-header_sum_once-h.false
+    c.header_at-h.ensures c.header_sum_at.ensures c.if-header_sum_at-h.false

@@ -1,10 +1,10 @@
 -- `header::inner::write_header` meets its contract: one law for each way out. Assumes nothing.
 use mathlib.Core.Path.{sym, ap, ◌∙◌}
 use native.Mathlib.Omega.{arith}
+use Rattle.units.proofs.Results.{ends-handed}
 use Rattle.units.specs.Answer.{ends}
-use Rattle.units.specs.Meanings.{placed_means}
+use Rattle.units.specs.Meanings.{means}
 use Rattle.units.proofs.Laws.{size-past, inside-yes}
-use Rattle.header.specs.Meanings.{sum_means}
 use Rattle.header.proofs.Ways.{write-size, write-wrong, write-parts, write-over, write-outside, write-stored}
 use Rattle.std.specs.Prelude.{not}
 use Rattle.header.proofs.inner.write_header.Goals as goal
@@ -15,21 +15,21 @@ returns-then-not-good_block_size c = ends (write-size _ _ _ _ c.good_block_size.
 pub returns-then-wrong : goal.returns-then-wrong
 returns-then-wrong c = ends (write-wrong _ _ _ _ c.good_block_size.ensures (ap not c.if-not-good_block_size.false) c.if-wrong.true)
 
-pub returns-in-Refused : goal.returns-in-Refused
-returns-in-Refused c =
+pub returns-in_err-parts : goal.returns-in_err-parts
+returns-in_err-parts c =
     let summed = c in
     let tested = summed in
-    ends (write-parts _ _ _ _ tested.good_block_size.ensures (ap not tested.if-not-good_block_size.false) tested.if-wrong.false
-    (sym summed.parts_sum.ensures ∙ ap sum_means summed.in-Refused.is))
+    ends-handed _ _ c.from_residual.ensures.1 (write-parts _ _ _ _ tested.good_block_size.ensures (ap not tested.if-not-good_block_size.false) tested.if-wrong.false
+    (sym summed.in_err-parts.ensures))
 
-pub returns-in-Refused-place : goal.returns-in-Refused-place
-returns-in-Refused-place c =
+pub returns-in_err-at : goal.returns-in_err-at
+returns-in_err-at c =
     let placed = c in
     let summed = placed in
     let tested = summed in
-    ends (write-over _ _ _ _ tested.good_block_size.ensures (ap not tested.if-not-good_block_size.false) tested.if-wrong.false
-    (sym summed.parts_sum.ensures ∙ ap sum_means summed.in-Sum.is)
-    (sym placed.place.ensures ∙ ap placed_means placed.in-Refused-place.is))
+    ends-handed _ _ c.from_residual-in_err-at.ensures.1 (write-over _ _ _ _ tested.good_block_size.ensures (ap not tested.if-not-good_block_size.false) tested.if-wrong.false
+    (sym summed.in_ok-parts.ensures)
+    (sym placed.in_err-at.ensures))
 
 pub returns-then-not-is_inside : goal.returns-then-not-is_inside
 returns-then-not-is_inside c =
@@ -37,8 +37,8 @@ returns-then-not-is_inside c =
     let summed = placed in
     let tested = summed in
     ends (write-outside _ _ _ _ tested.good_block_size.ensures (ap not tested.if-not-good_block_size.false) tested.if-wrong.false
-    (sym summed.parts_sum.ensures ∙ ap sum_means summed.in-Sum.is)
-    (sym placed.place.ensures ∙ ap placed_means placed.in-At.is)
+    (sym summed.in_ok-parts.ensures)
+    (sym placed.in_ok-at.ensures)
     c.is_inside.ensures (ap not c.if-not-is_inside.true))
 
 pub put_block-requires : goal.put_block-requires
@@ -56,6 +56,6 @@ returns c =
     let summed = placed in
     let tested = summed in
     ends (write-stored _ _ _ _ tested.good_block_size.ensures (ap not tested.if-not-good_block_size.false) tested.if-wrong.false
-    (sym summed.parts_sum.ensures ∙ ap sum_means summed.in-Sum.is)
-    (sym placed.place.ensures ∙ ap placed_means placed.in-At.is)
-    inside.is_inside.ensures (ap not inside.if-not-is_inside.false) c.with_sums-next.ensures c.put_block.ensures)
+    (sym summed.in_ok-parts.ensures)
+    (sym placed.in_ok-at.ensures)
+    inside.is_inside.ensures (ap not inside.if-not-is_inside.false) c.with_sums-header.ensures c.put_block.ensures)

@@ -11,11 +11,11 @@ use Rattle.label.proofs.inner.label_of.Goals as goal
 pub returns-then-not-same_at : goal.returns-then-not-same_at
 returns-then-not-same_at c = label-34 _ (sym c.same_at.ensures ∙ not-true _ (ap not c.if-not-same_at.true))
 
-pub returns-then-u16_at-ne1 : goal.returns-then-u16_at-ne1
-returns-then-u16_at-ne1 c = label-35 _ (sym c.same_at.ensures ∙ c.if-not-same_at.false) (ap (λ (k : ℕ). eqb k 1) (sym c.u16_at.ensures) ∙ ne_eqb _ 1 c.if-u16_at-ne1.true)
+pub returns-then-get-ne1 : goal.returns-then-get-ne1
+returns-then-get-ne1 c = label-35 _ (sym c.same_at.ensures ∙ c.if-not-same_at.false) (ap (λ (k : ℕ). eqb k 1) (sym c.get.ensures) ∙ ne_eqb _ 1 c.if-get-ne1.true)
 
 pub returns-then-not-good_date : goal.returns-then-not-good_date
-returns-then-not-good_date c = label-36 _ (sym c.same_at.ensures ∙ c.if-not-same_at.false) (ap (λ (k : ℕ). eqb k 1) (sym c.u16_at.ensures) ∙ eq-eqb _ 1 c.if-u16_at-ne1.false) (sym c.good_date.ensures ∙ not-true _ (ap not c.if-not-good_date.true))
+returns-then-not-good_date c = label-36 _ (sym c.same_at.ensures ∙ c.if-not-same_at.false) (ap (λ (k : ℕ). eqb k 1) (sym c.get.ensures) ∙ eq-eqb _ 1 c.if-get-ne1.false) (sym c.good_date.ensures ∙ not-true _ (ap not c.if-not-good_date.true))
 
 pub returns : goal.returns
-returns c = ap accepted c.label_at.ensures ∙ label-good _ (sym c.same_at.ensures ∙ c.if-not-same_at.false) (ap (λ (k : ℕ). eqb k 1) (sym c.u16_at.ensures) ∙ eq-eqb _ 1 c.if-u16_at-ne1.false) (sym c.good_date.ensures ∙ c.if-not-good_date.false)
+returns c = ap accepted c.label_at.ensures ∙ label-good _ (sym c.same_at.ensures ∙ c.if-not-same_at.false) (ap (λ (k : ℕ). eqb k 1) (sym c.get.ensures) ∙ eq-eqb _ 1 c.if-get-ne1.false) (sym c.good_date.ensures ∙ c.if-not-good_date.false)

@@ -1,11 +1,12 @@
 -- `label::inner::step` meets its contract: one law for each way out. Assumes nothing.
-use mathlib.Core.Path.{ap}
-use Rattle.label.specs.Meanings.{label_means}
+use Rattle.std.proofs.Common.{ap, ◌∙◌}
+use Rattle.units.specs.Meanings.{card_means}
+use Rattle.units.proofs.Results.{card-handed}
 use Rattle.label.proofs.JudgeWays.{step-refused, step-read}
 use Rattle.label.proofs.inner.step.Goals as goal
 
-pub returns-in-Refused : goal.returns-in-Refused
-returns-in-Refused c = step-refused _ (ap label_means c.in-Refused.is)
+pub returns-in_err-label : goal.returns-in_err-label
+returns-in_err-label c = card-handed _ _ c.from_residual.ensures.1 ∙ step-refused _ (ap card_means c.in_err-label.was)
 
-pub returns-in-Label : goal.returns-in-Label
-returns-in-Label c = step-read _ (ap label_means c.in-Label.is) c.dated.ensures c.agree.ensures
+pub returns : goal.returns
+returns c = step-read _ (ap card_means c.in_ok-label.was) c.dated.ensures c.agree.ensures

@@ -1,14 +1,10 @@
 -- `label::judging::judge_slots` meets its contract. The loop's invariant: what is left of the list, held against the first slot's date, comes to what the whole list does.
 -- Assumes nothing.
+use Rattle.std.specs.Prelude.{None}
 use mathlib.Core.Path.{◌≡◌}
-use Prim.Native.Nat.{◌-◌, ◌≤◌}
-use lib.ListN.{length, drop}
-use Rattle.label.specs.declared.inner.Agreed.TheVariants as agreed
+use lib.ListN.{drop}
 use Rattle.label.specs.Judging.{judge_from, shown_in}
 use Rattle.label.proofs.judging.judge_slots.Given as goal
 
-abbrev pub invariant-loop-i : goal.invariant-loop-i
-invariant-loop-i l = (l.i ≤ length l.slots) × (judge_from l.agreed (shown_in l.b l.img (drop l.i l.slots)) ≡ judge_from agreed.Nothing (shown_in l.b l.img l.slots))
-
-abbrev pub decreases-loop-i : goal.decreases-loop-i
-decreases-loop-i l = length l.slots - l.i
+abbrev pub invariant-loop-slot : goal.invariant-loop-slot
+invariant-loop-slot l = judge_from l.agreed (shown_in l.b l.img (drop l.slot-index l.slots)) ≡ judge_from None (shown_in l.b l.img l.slots)

@@ -1,11 +1,12 @@
 -- `listing::inner::count_by` meets its contract. Assumes nothing.
-use mathlib.Core.Path.{ap}
+use Rattle.std.proofs.Common.{ap, ◌∙◌}
 use Rattle.units.specs.Meanings.{card_means}
+use Rattle.units.proofs.Results.{card-handed}
 use Rattle.rows.proofs.Laws.{counts-present, counts-refused}
 use Rattle.listing.proofs.inner.count_by.Goals as goal
 
-pub returns-in-Accepted : goal.returns-in-Accepted
-returns-in-Accepted c = counts-present _ (ap card_means c.in-Accepted.is)
+pub returns-in_err-p : goal.returns-in_err-p
+returns-in_err-p c = card-handed _ _ c.from_residual.ensures.1 ∙ counts-refused _ (ap card_means c.in_err-p.was)
 
-pub returns-in-Refused : goal.returns-in-Refused
-returns-in-Refused c = counts-refused _ (ap card_means c.in-Refused.is)
+pub returns : goal.returns
+returns c = counts-present _ (ap card_means c.in_ok-p.was)

@@ -2,35 +2,36 @@
 use mathlib.Core.Path.{◌≡◌, refl, sym, ap, ◌∙◌}
 use Prim.Native.Nat.{ℕ}
 use native.Mathlib.Omega.{arith}
-use lib.ListN.{drop}
+use lib.ListN.{drop, take}
 use Rattle.partition.specs.Array.{present_from}
-use Rattle.listing.proofs.Ways.{filled, passed-one, none_left, first-left}
+use Rattle.partition.specs.Meanings.{slots_of}
+use Rattle.listing.proofs.Ways.{filled, passed-one, none_left}
 use Rattle.listing.proofs.inner.nth_in.Goals as goal
 
 pub loop-i-init : goal.loop-i-init
-loop-i-init c = (omega arith, refl)
+loop-i-init c = refl
 
-pub next_present-next-requires : goal.next_present-next-requires
-next_present-next-requires c = filled _ c.requires
+pub next_present-requires : goal.next_present-requires
+next_present-requires c = filled _ c.requires
 
-pub returns-then-next-eq0 : goal.returns-then-next-eq0
-returns-then-next-eq0 c =
+pub returns-in_err-after : goal.returns-in_err-after
+returns-in_err-after c =
     let a = c.args in
     let l = c.loop-i in
-    none_left a.array.now l.after.0 c.next_present-next.ensures (present_from a.array.now 0 0 128) l.i a.k l.invariant.0 c.if-next-eq0.true l.invariant.1
+    ap slots_of c.from_residual.ensures ∙ none_left a.array.now l.after.0 (present_from a.array.now 0 0 128) l._i a.k (omega arith) c.in_err-after.ensures l.invariant
 
 pub loop-i-preserved : goal.loop-i-preserved
 loop-i-preserved c =
     let a = c.args in
     let l = c.loop-i in
-    (omega arith, passed-one a.array.now l.after.0 c.next_present-next.ensures (present_from a.array.now 0 0 128) l.i c.if-next-eq0.false l.invariant.1)
+    passed-one a.array.now l.after.0 (present_from a.array.now 0 0 128) l._i c.in_ok-after.ensures l.invariant
 
-pub next_present-requires : goal.next_present-requires
-next_present-requires c = filled _ c.requires
+pub next_present-requires-2 : goal.next_present-requires-2
+next_present-requires-2 c = filled _ c.requires
 
 pub returns : goal.returns
 returns c =
     let a = c.args in
     let l = c.loop-i in
-    let e : l.i ≡ a.k = omega arith in
-    first-left a.array.now l.after.0 c.next_present.ensures (present_from a.array.now 0 0 128) a.k (ap (λ (j : ℕ). drop j (present_from a.array.now 0 0 128)) (sym e) ∙ l.invariant.1)
+    let e : l._i ≡ a.k = omega arith in
+    c.next_present-2.ensures ∙ ap (take 1) (sym l.invariant) ∙ ap (λ (i : ℕ). take 1 (drop i (present_from a.array.now 0 0 128))) e

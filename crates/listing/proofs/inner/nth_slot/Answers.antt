@@ -3,7 +3,7 @@ use mathlib.Core.Path.{ap, ◌∙◌}
 use mathlib.Core.List.{List}
 use Prim.Native.Nat.{ℕ}
 use native.Mathlib.Omega.{arith}
-use lib.ListN.{get_or}
+use lib.ListN.{take, drop}
 use Rattle.units.specs.Bytes.{part}
 use Rattle.units.proofs.Lists.{length-lent, lent-part}
 use Rattle.partition.specs.Array.{present_from}
@@ -31,4 +31,4 @@ unfolding present_slots tables_at
 returns c =
     let a = c.args in
     c.nth_in.ensures
-    ∙ ap (λ (l : List ℕ). get_or (present_from l 0 0 128) a.k 0) (lent-part a.img.now c.front_array-array.result.0 16384 ∙ ap (λ (i : ℕ). part a.img.now i 16384) c.front_array-array.ensures)
+    ∙ ap (λ (l : List ℕ). take 1 (drop a.k (present_from l 0 0 128))) (lent-part a.img.now c.front_array-array.result.0 16384 ∙ ap (λ (i : ℕ). part a.img.now i 16384) c.front_array-array.ensures)

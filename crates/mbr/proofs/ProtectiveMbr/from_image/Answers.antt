@@ -6,7 +6,6 @@ use native.Mathlib.Omega.{arith}
 use lib.ListN.{length}
 use lib.Seq.{length-take-le}
 use borrow.Author.Tests.{not-false}
-use Rattle.units.specs.Answer.{beside}
 use Rattle.units.specs.Places.{good_size}
 use Rattle.mbr.specs.Parsing.{image_parsed}
 use Rattle.mbr.proofs.Laws.{image-short, image-parsed}
@@ -15,15 +14,14 @@ use Rattle.std.specs.Prelude.{not}
 use Rattle.mbr.proofs.ProtectiveMbr.from_image.Goals as goal
 
 pub returns-then-not-good_block_size : goal.returns-then-not-good_block_size
-unfolding image_parsed beside
-returns-then-not-good_block_size c = rw (c.no_mbr.ensures, ← c.good_block_size.ensures, (ap not c.if-not-good_block_size.true))
+unfolding image_parsed
+returns-then-not-good_block_size c = rw (← c.good_block_size.ensures, (ap not c.if-not-good_block_size.true))
 
 pub returns-then-img-size : goal.returns-then-img-size
-unfolding beside
 returns-then-img-size c =
     let a = c.args in
     let g : good_size a.b ≡ true = sym c.good_block_size.ensures ∙ not-false _ (ap not c.if-not-good_block_size.false) in
-    rw (c.no_mbr-then-img-size.ensures, image-short a.img.now a.b g c.if-img-size.true)
+    rw (image-short a.img.now a.b g c.if-img-size.true)
 
 pub slice_bounds-from_bytes-end : goal.slice_bounds-from_bytes-end
 slice_bounds-from_bytes-end c =

@@ -27,5 +27,5 @@ returns c =
     let T : List ℕ = tail_bytes m.partitions in
     and_then (replicate 512 0) 0 B 440 (S ++ (U ++ T)) (omega (arith, f.boot)) c.put_bytes.ensures
     (and_then _ 440 S 444 (U ++ T) (omega (arith, f.sign)) c.put_bytes-2.ensures
-    (and_then _ 444 U 446 T (rw length-bytes) c.put_num.ensures c.put_tail.ensures))
+    (and_then _ 444 U 446 T (rw length-bytes) c.put.ensures c.put_tail.ensures))
     ∙ sets-all (replicate 512 0) (mbr_bytes m) (sym (length-mbr m f))

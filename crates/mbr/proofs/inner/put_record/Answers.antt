@@ -15,4 +15,4 @@ returns c =
     let B : List ℕ = bytes 4 p.lb_start in
     let C : List ℕ = bytes 4 p.lb_size in
     and_then a.s.now a.at A (a.at + 8) (B ++ C) (omega arith) c.put_bytes.ensures
-    (and_then _ (a.at + 8) B (a.at + 12) C (simp length-bytes (omega arith)) c.put_num.ensures c.put_num-2.ensures)
+    (and_then _ (a.at + 8) B (a.at + 12) C (simp length-bytes (omega arith)) c.put.ensures c.put-2.ensures)

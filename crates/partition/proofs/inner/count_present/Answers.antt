@@ -10,7 +10,7 @@ use Rattle.partition.proofs.inner.count_present.Goals as goal
 use Rattle.partition.proofs.inner.count_present.Goals.{then-is_present, else-is_present}
 
 pub loop-k-init : goal.loop-k-init
-loop-k-init c = (omega arith, omega arith, rw sub-zero (omega arith))
+loop-k-init c = (omega arith, rw sub-zero (omega arith))
 
 -- the whole array is inside, since it has an entry
 within : (c : goal.In-loop-k) → let a = c.args in a.at + a.count * 128 ≤ length a.s.now
@@ -30,11 +30,9 @@ loop-k-preserved c =
     elim c.if-is_present.branch [
       | then-is_present w ↦ (
         omega arith,
-        omega arith,
         omega (arith, ap length (from-yes a.s.now a.at l.k a.count (omega arith) (sym e ∙ w.if-is_present.true))),
       )
       | else-is_present w ↦ (
-        omega arith,
         omega arith,
         omega (arith, ap length (from-no a.s.now a.at l.k a.count (omega arith) (sym e ∙ w.if-is_present.false))),
       )

@@ -1,19 +1,20 @@
 -- `partition::inner::device_place` meets its contract. Assumes nothing.
 use mathlib.Core.Path.{sym, ap, ◌∙◌}
-use Rattle.units.specs.Meanings.{verdict_means}
+use Rattle.units.proofs.Results.{handed}
+use Rattle.units.specs.Meanings.{means}
 use Rattle.partition.specs.Device.{device_place}
 use Rattle.partition.proofs.Ways.{sizes-tell}
 use Rattle.partition.proofs.inner.device_place.Goals as goal
 
 pub device_run-requires : goal.device_run-requires
 device_run-requires c =
-    let t = sizes-tell _ _ (sym c.device_sizes.ensures ∙ ap verdict_means c.in-Accepted.is) in
+    let t = sizes-tell _ _ (sym c.in_ok-device_sizes.ensures) in
     (t.good, t.filled)
 
-pub returns-in-Refused : goal.returns-in-Refused
+pub returns-in_err-device_sizes : goal.returns-in_err-device_sizes
 unfolding device_place
-returns-in-Refused c = rw (sym c.device_sizes.ensures ∙ ap verdict_means c.in-Refused.is)
+returns-in_err-device_sizes c = handed _ _ c.from_residual.ensures.1 ∙ rw (sym c.in_err-device_sizes.ensures)
 
-pub returns-in-Accepted : goal.returns-in-Accepted
+pub returns : goal.returns
 unfolding device_place
-returns-in-Accepted c = c.device_run.ensures ∙ rw (sym c.device_sizes.ensures ∙ ap verdict_means c.in-Accepted.is)
+returns c = c.device_run.ensures ∙ rw (sym c.in_ok-device_sizes.ensures)

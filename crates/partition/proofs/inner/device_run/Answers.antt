@@ -2,7 +2,8 @@
 use mathlib.Core.Path.{sym, ap, ◌∙◌}
 use Prim.Native.Nat.{◌+◌, ◌*◌, ◌^◌, ◌≤◌}
 use native.Mathlib.Omega.{arith}
-use Rattle.units.specs.Meanings.{placed_means}
+use Rattle.units.proofs.Results.{handed}
+use Rattle.units.specs.Meanings.{means}
 use Rattle.units.proofs.Laws.{product, product-not}
 use Rattle.partition.proofs.Ways.{run-over, run-start, run-from}
 use Rattle.partition.proofs.inner.device_run.Goals as goal
@@ -25,12 +26,12 @@ overflow_mul-offset c = let s = c in record { fits = product s.args.index s.args
 pub overflow_mul-n : goal.overflow_mul-n
 overflow_mul-n c = let s = c in record { fits = product s.args.count s.args.entry_size s.requires.1 c.if-most-count.false }
 
-pub returns-in-Refused : goal.returns-in-Refused
-returns-in-Refused c =
+pub returns-in_err-base : goal.returns-in_err-base
+returns-in_err-base c =
     let s = c in
-    run-start s.args.b s.args.start.0 _ _ s.requires.0 (sym c.place.ensures ∙ ap placed_means c.in-Refused.is)
+    handed _ _ c.from_residual.ensures.1 ∙ run-start s.args.b s.args.start.0 _ _ s.requires.0 (sym c.in_err-base.ensures)
 
-pub returns-in-At : goal.returns-in-At
-returns-in-At c =
+pub returns : goal.returns
+returns c =
     let s = c in
-    c.run_place.ensures ∙ run-from s.args.b s.args.start.0 _ _ s.requires.0 (sym c.place.ensures ∙ ap placed_means c.in-At.is)
+    c.run_place.ensures ∙ run-from s.args.b s.args.start.0 _ _ s.requires.0 (sym c.in_ok-base.ensures)

@@ -1,24 +1,24 @@
 -- `partition::inner::find_array` meets its contract: the header's own sum of the array has the refusals that are left. Assumes nothing.
 use mathlib.Core.Path.{sym, ap, ◌∙◌}
-use Rattle.units.specs.Meanings.{placed_means}
-use Rattle.header.specs.Meanings.{sum_means}
+use Rattle.units.proofs.Results.{handed}
+use Rattle.units.specs.Meanings.{means}
 use Rattle.partition.proofs.Ways.{array-refused, array-each, array-unsummed, array-other, array-good}
 use Rattle.partition.proofs.inner.find_array.Goals as goal
 
 pub returns-then-h-ne128 : goal.returns-then-h-ne128
-returns-then-h-ne128 c = array-each _ _ _ (sym c.place.ensures ∙ ap placed_means c.in-At.is) c.if-h-ne128.true
+returns-then-h-ne128 c = array-each _ _ _ (sym c.in_ok-at.ensures) c.if-h-ne128.true
 
 pub returns-then-sum-h : goal.returns-then-sum-h
 returns-then-sum-h c =
-    array-other _ _ _ (sym c.place.ensures ∙ ap placed_means c.in-At.is) c.if-h-ne128.false (sym c.partentry_checksum.ensures ∙ ap sum_means c.in-Sum.is) c.if-sum-h.true
+    array-other _ _ _ (sym c.in_ok-at.ensures) c.if-h-ne128.false (sym c.in_ok-sum.ensures) c.if-sum-h.true
 
-pub returns-in-Refused : goal.returns-in-Refused
-returns-in-Refused c = array-refused _ _ _ (sym c.place.ensures ∙ ap placed_means c.in-Refused.is)
+pub returns-in_err-at : goal.returns-in_err-at
+returns-in_err-at c = handed _ _ c.from_residual.ensures.1 ∙ array-refused _ _ _ (sym c.in_err-at.ensures)
 
-pub returns-in-Refused-partentry_checksum : goal.returns-in-Refused-partentry_checksum
-returns-in-Refused-partentry_checksum c =
-    array-unsummed _ _ _ (sym c.place.ensures ∙ ap placed_means c.in-At.is) c.if-h-ne128.false (sym c.partentry_checksum.ensures ∙ ap sum_means c.in-Refused-partentry_checksum.is)
+pub returns-in_err-sum : goal.returns-in_err-sum
+returns-in_err-sum c =
+    handed _ _ c.from_residual-in_err-sum.ensures.1 ∙ array-unsummed _ _ _ (sym c.in_ok-at.ensures) c.if-h-ne128.false (sym c.in_err-sum.ensures)
 
-pub returns-else-sum-h : goal.returns-else-sum-h
-returns-else-sum-h c =
-    array-good _ _ _ (sym c.place.ensures ∙ ap placed_means c.in-At.is) c.if-h-ne128.false (sym c.partentry_checksum.ensures ∙ ap sum_means c.in-Sum.is) c.if-sum-h.false
+pub returns : goal.returns
+returns c =
+    array-good _ _ _ (sym c.in_ok-at.ensures) c.if-h-ne128.false (sym c.in_ok-sum.ensures) c.if-sum-h.false

@@ -5,13 +5,13 @@ use Prim.Native.Nat.{ℕ, ◌+◌, ◌*◌, ◌≤◌}
 use native.Mathlib.Omega.{arith}
 use lib.ListN.{length, get_or}
 use Rattle.units.specs.declared.Slot.{Slot}
-use Rattle.partition.specs.Array.{first_slot}
+use Rattle.std.specs.Prelude.{take, Option, Some}
+use Rattle.partition.specs.Meanings.{slots_of}
 use Rattle.partition.proofs.Laws.{from-yes, from-no, from-none}
 use Rattle.partition.proofs.Ways.{inside-filled}
 use Rattle.partition.proofs.inner.next_present.Goals as goal
 
 pub loop-k-init : goal.loop-k-init
-unfolding first_slot
 loop-k-init c = refl
 
 -- the whole array is inside, since it has an entry
@@ -25,15 +25,15 @@ pub is_present-requires : goal.is_present-requires
 is_present-requires c = omega (arith, within c)
 
 -- the first of the slots that are left
-abbrev first : List ℕ → ℕ
-first l = get_or l 0 0
+abbrev first : List ℕ → List ℕ
+first l = take 1 l
 
 pub returns-then-is_present : goal.returns-then-is_present
 returns-then-is_present c =
     let d = c in
     let l = d.loop-k in
     let a = d.args in
-    ap (λ (x : Slot). x.0) c.slot_at.ensures
+    ap (λ (x : Slot). slots_of (Some x)) c.slot_at.ensures
     ∙ sym (l.invariant ∙ ap first (from-yes a.s.now a.at l.k a.count (omega arith) (sym d.is_present.ensures ∙ d.if-is_present.true)))
 
 pub loop-k-preserved : goal.loop-k-preserved

@@ -26,6 +26,6 @@ returns c =
     let F : List ℕ = unit_bytes a.p.name in
     and_then s at A (at + 16) (B ++ (C ++ (D ++ (E ++ F)))) (omega (arith, length-guid a.p.part_type_guid)) c.put_guid.ensures
     (and_then _ (at + 16) B (at + 32) (C ++ (D ++ (E ++ F))) (omega (arith, length-guid a.p.part_guid)) c.put_guid-2.ensures
-    (and_then _ (at + 32) C (at + 40) (D ++ (E ++ F)) (simp length-bytes (omega arith)) c.put_num.ensures
-    (and_then _ (at + 40) D (at + 48) (E ++ F) (simp length-bytes (omega arith)) c.put_num-2.ensures
-    (and_then _ (at + 48) E (at + 56) F (simp length-bytes (omega arith)) (c.put_num-3.ensures ∙ ap (λ (x : ℕ). sets c.put_num-2.new.s (at + 48) (bytes 8 x)) c.joined.ensures) c.put_units.ensures))))
+    (and_then _ (at + 32) C (at + 40) (D ++ (E ++ F)) (simp length-bytes (omega arith)) c.put.ensures
+    (and_then _ (at + 40) D (at + 48) (E ++ F) (simp length-bytes (omega arith)) c.put-2.ensures
+    (and_then _ (at + 48) E (at + 56) F (simp length-bytes (omega arith)) (c.put-3.ensures ∙ ap (λ (x : ℕ). sets c.put-2.new.s (at + 48) (bytes 8 x)) c.joined.ensures) c.put_units.ensures))))

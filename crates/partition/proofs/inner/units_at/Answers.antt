@@ -1,4 +1,4 @@
--- `partition::inner::units_at` meets its contract. The invariant: with the units that are left stored behind those read, the array is the name. Assumes nothing.
+-- `partition::inner::units_at` meets its contract. Assumes nothing.
 use mathlib.Core.Path.{◌≡◌, sym, ◌∙◌}
 use Prim.Native.Nat.{◌+◌, ◌*◌, ◌-◌}
 use native.Mathlib.Nat.{add-zero}
@@ -11,15 +11,14 @@ use Rattle.partition.proofs.inner.units_at.Goals as goal
 pub loop-i-init : goal.loop-i-init
 loop-i-init c =
     let a = c.args in
-    (omega arith, omega arith, rw add-zero (sets-all _ _ (sym (length-units 36 a.s.now a.at))))
+    (omega arith, rw add-zero (sets-all _ _ (sym (length-units 36 a.s.now a.at))))
 
 pub loop-i-preserved : goal.loop-i-preserved
 loop-i-preserved c =
     let a = c.args in
     let l = c.loop-i in (
-      omega arith,
       simp length-set (omega arith),
-      rw c.u16_at.ensures (units-more l.name a.s.now a.at l.i 36 (omega arith) ∙ l.invariant.2),
+      rw c.get.ensures (units-more l.u-items a.s.now a.at l.i 36 (omega arith) ∙ l.invariant.1),
     )
 
 pub returns : goal.returns
@@ -27,4 +26,4 @@ returns c =
     let a = c.args in
     let l = c.loop-i in
     let z : 36 - l.i ≡ 0 = omega arith in
-    sym (units-none l.name a.s.now l.i (a.at + 2 * l.i)) ∙ rw z at l.invariant.2
+    sym (units-none l.u-items a.s.now l.i (a.at + 2 * l.i)) ∙ rw z at l.invariant.1

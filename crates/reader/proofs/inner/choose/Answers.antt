@@ -30,7 +30,7 @@ pub choose_copy-requires : goal.choose_copy-requires
 choose_copy-requires c =
     let a = c.args in
     let r = room-ok _ _ (sym c.room_check-room.ensures ∙ c.if-room-ne0.false) in
-    record { rows = c.table-t.ensures; len_value = ((sym c.room_check-room.ensures ∙ c.if-room-ne0.false), length-lent a.img.now a.b (a.b + 16384) (omega (arith, r.low, r.seam, r.top)), length-lent a.img.now c.back_place-at.result.0 (a.b + 16384) c.back_place-at.ensures.1) }
+    ((sym c.room_check-room.ensures ∙ c.if-room-ne0.false), length-lent a.img.now a.b (a.b + 16384) (omega (arith, r.low, r.seam, r.top)), length-lent a.img.now c.back_place-at.result.0 (a.b + 16384) c.back_place-at.ensures.1)
 
 pub returns : goal.returns
 returns c =

@@ -11,7 +11,7 @@ use Rattle.rows.proofs.by_type.count_used.Goals as goal
 use Rattle.rows.proofs.by_type.count_used.Goals.{then-is_used, else-is_used}
 
 pub loop-k-init : goal.loop-k-init
-loop-k-init c = (omega arith, omega arith, rw sub-zero (omega arith))
+loop-k-init c = (omega arith, rw sub-zero (omega arith))
 
 -- the entry at hand is inside
 within : (c : goal.In-loop-k) → let a = c.args in a.at.0 + c.loop-k.k * a.each + 128 ≤ length a.s.now
@@ -34,8 +34,8 @@ loop-k-preserved c =
     let u : ℕ → Bool = typed_each a.s.now a.each a.at.0 in
     let e = used-here a.s.now a.each a.at.0 l.k c.entry_place.ensures c.is_used.ensures in
     elim c.if-is_used.branch [
-      | then-is_used w ↦ (omega arith, omega arith, omega (arith, ap length (from-yes u l.k a.count (omega arith) (e ∙ w.if-is_used.true))))
-      | else-is_used w ↦ (omega arith, omega arith, omega (arith, ap length (from-no u l.k a.count (omega arith) (e ∙ w.if-is_used.false))))
+      | then-is_used w ↦ (omega arith, omega (arith, ap length (from-yes u l.k a.count (omega arith) (e ∙ w.if-is_used.true))))
+      | else-is_used w ↦ (omega arith, omega (arith, ap length (from-no u l.k a.count (omega arith) (e ∙ w.if-is_used.false))))
     ]
 
 pub returns : goal.returns

@@ -6,7 +6,4 @@ use Rattle.rows.specs.Slots.{slots_from, typed_each}
 use Rattle.rows.proofs.by_type.count_used.Given as goal
 
 abbrev pub invariant-loop-k : goal.invariant-loop-k
-invariant-loop-k l = (l.k ≤ l.count) × (l.n ≤ l.k) × (l.n + length (slots_from (typed_each l.s l.each l.at.0) l.k (l.count - l.k)) ≡ length (slots_from (typed_each l.s l.each l.at.0) 0 l.count))
-
-abbrev pub decreases-loop-k : goal.decreases-loop-k
-decreases-loop-k l = l.count - l.k
+invariant-loop-k l = (l.n ≤ l.k) × (l.n + length (slots_from (typed_each l.s l.each l.at.0) l.k (l.count - l.k)) ≡ length (slots_from (typed_each l.s l.each l.at.0) 0 l.count))

@@ -4,14 +4,15 @@ use mathlib.Core.Bool.{Bool}
 use mathlib.Core.List.{List}
 use Prim.Native.Nat.{ℕ, ◌+◌, ◌*◌, ◌≤◌}
 use native.Mathlib.Omega.{arith}
-use lib.ListN.{length, get_or}
+use lib.ListN.{length, take}
 use Rattle.units.specs.declared.Slot.{Slot}
-use Rattle.rows.specs.Slots.{first_after, typed_each}
+use Rattle.std.specs.Prelude.{Some}
+use Rattle.partition.specs.Meanings.{slots_of}
+use Rattle.rows.specs.Slots.{typed_each}
 use Rattle.rows.proofs.Slots.{from-yes, from-no, from-none, entry-within, used-here}
 use Rattle.rows.proofs.by_type.next_used.Goals as goal
 
 pub loop-k-init : goal.loop-k-init
-unfolding first_after
 loop-k-init c = refl
 
 -- the entry at hand is inside
@@ -29,8 +30,8 @@ is_used-requires c =
     omega (arith, entry-within _ _ _ _ _ p.0 p.1 c.loop-k-test.true, c.entry_place.ensures)
 
 -- the first of the slots that are left
-abbrev first : List ℕ → ℕ
-first l = get_or l 0 0
+abbrev first : List ℕ → List ℕ
+first l = take 1 l
 
 pub returns-then-is_used : goal.returns-then-is_used
 returns-then-is_used c =
@@ -39,7 +40,7 @@ returns-then-is_used c =
     let a = d.args in
     let u : ℕ → Bool = typed_each a.s.now a.each a.at.0 in
     let e = used-here a.s.now a.each a.at.0 l.k d.entry_place.ensures d.is_used.ensures in
-    ap (λ (x : Slot). x.0) c.slot_at.ensures
+    ap (λ (x : Slot). slots_of (Some x)) c.slot_at.ensures
     ∙ sym (l.invariant ∙ ap first (from-yes u l.k a.count (omega arith) (e ∙ d.if-is_used.true)))
 
 pub loop-k-preserved : goal.loop-k-preserved

@@ -1,6 +1,6 @@
 -- `rows::inner::fill_bytes` meets its contract. The invariant: with the rows that are left stored, the lent bytes are those that are asked for. Assumes nothing.
 use mathlib.Core.Path.{◌≡◌}
-use Prim.Native.Nat.{◌+◌, ◌*◌, ◌-◌}
+use Prim.Native.Nat.{◌+◌, ◌*◌}
 use lib.ListN.{length}
 use lib.Seq.{sets}
 use Rattle.rows.specs.Plans.{entries_by}
@@ -13,6 +13,3 @@ invariant-loop-i l =
     (l.i + length (left l.img l.q l.at) ≡ l.count)
     × (length l.out ≡ length l.initial.out)
     × (sets l.out (136 * l.i) (rows_bytes (left l.img l.q l.at)) ≡ sets l.initial.out 0 (rows_bytes (entries_by l.img l.q)))
-
-abbrev pub decreases-loop-i : goal.decreases-loop-i
-decreases-loop-i l = l.count - l.i

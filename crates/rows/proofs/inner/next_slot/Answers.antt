@@ -6,7 +6,7 @@ pub next_used-requires : goal.next_used-requires
 next_used-requires c = let l = c.requires in (l.size, l.within)
 
 pub returns-then-p : goal.returns-then-p
-returns-then-p c = after-by-type _ _ _ c.if-p.true c.next_used.ensures
+returns-then-p c = after-by-type _ _ _ c.if-p.true c.or_before_first.ensures c.next_used.ensures
 
 pub next_present-requires : goal.next_present-requires
 next_present-requires c =
@@ -14,4 +14,4 @@ next_present-requires c =
     rw (l.whole c.if-p.false) at l.within
 
 pub returns : goal.returns
-returns c = after-whole _ _ _ c.if-p.false c.next_present.ensures
+returns c = after-whole _ _ _ c.if-p.false c.or_before_first-2.ensures c.next_present.ensures

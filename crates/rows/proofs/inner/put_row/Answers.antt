@@ -5,4 +5,4 @@ use Rattle.rows.proofs.inner.put_row.Goals as goal
 pub returns : goal.returns
 returns c =
     let a = c.args in
-    row-stored a.e a.out.now a.at.0 c.put_num.ensures c.put_entry.ensures
+    row-stored a.e a.out.now a.at.0 (rw c.from.ensures at c.put.ensures) c.put_entry.ensures

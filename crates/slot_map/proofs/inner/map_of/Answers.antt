@@ -7,7 +7,7 @@ use Rattle.slot_map.proofs.Ways.{made-start, made_more, made-end, present-of}
 use Rattle.slot_map.proofs.inner.map_of.Goals as goal
 
 pub loop-k-init : goal.loop-k-init
-loop-k-init c = let a = c.args in (omega arith, made-start (copy_in a.b Front a.copy.now).array)
+loop-k-init c = let a = c.args in made-start (copy_in a.b Front a.copy.now).array
 
 pub entry_place-at-requires : goal.entry_place-at-requires
 entry_place-at-requires c = omega (arith, c.array_in-array.ensures.1, c.requires.0)
@@ -20,9 +20,9 @@ pub loop-k-preserved : goal.loop-k-preserved
 loop-k-preserved c =
     let a = c.args in
     let e : c.entry_place-at.result.0 ≡ a.b + 128 * c.loop-k.k = omega (arith, c.entry_place-at.ensures, c.array_in-array.ensures.0) in
-    (omega arith, made_more (copy_in a.b Front a.copy.now).array c.loop-k.k (omega arith) (present-of a.b a.copy.now e (omega arith) c.is_present.ensures) c.loop-k.invariant.1 c.with_bit-m.ensures)
+    made_more (copy_in a.b Front a.copy.now).array c.loop-k.k (omega arith) (present-of a.b a.copy.now e (omega arith) c.is_present.ensures) c.loop-k.invariant c.with_bit-m.ensures
 
 pub returns : goal.returns
 returns c =
     let a = c.args in
-    made-end (copy_in a.b Front a.copy.now).array c.loop-k.k (omega arith) c.loop-k.invariant.1
+    made-end (copy_in a.b Front a.copy.now).array c.loop-k.k (omega arith) c.loop-k.invariant

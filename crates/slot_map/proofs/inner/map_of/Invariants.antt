@@ -2,7 +2,7 @@
 use mathlib.Core.Path.{◌≡◌}
 use mathlib.Core.Bool.{false}
 use mathlib.Core.List.{◌++◌}
-use Prim.Native.Nat.{◌-◌, ◌≤◌}
+use Prim.Native.Nat.{◌-◌}
 use lib.ListN.{take, replicate}
 use Rattle.tables.specs.Lens.{Front, copy_in}
 use Rattle.slot_map.specs.Bits.{map_of}
@@ -10,7 +10,4 @@ use Rattle.slot_map.specs.Map.{flags_from}
 use Rattle.slot_map.proofs.inner.map_of.Given as goal
 
 abbrev pub invariant-loop-k : goal.invariant-loop-k
-invariant-loop-k l = (l.k ≤ 128) × (map_of l.m ≡ take l.k (flags_from (copy_in l.b Front l.copy).array 0 128) ++ replicate (128 - l.k) false)
-
-abbrev pub decreases-loop-k : goal.decreases-loop-k
-decreases-loop-k l = 128 - l.k
+invariant-loop-k l = map_of l.m ≡ take l.k (flags_from (copy_in l.b Front l.copy).array 0 128) ++ replicate (128 - l.k) false

@@ -9,7 +9,7 @@ pub front_guid-guid-requires : goal.front_guid-guid-requires
 front_guid-guid-requires c = let r = room-ok _ _ c.requires.len_value.0 in (omega (arith, r.least), r.most, c.requires.len_value.1)
 
 pub front_sum-parts-requires : goal.front_sum-parts-requires
-front_sum-parts-requires c = record { rows = c.requires.rows; len_value = c.requires.len_value; b_value = c.requires.b_value; slot_value = (c.requires.slot_value, (search rules)) }
+front_sum-parts-requires c = record { len_value = c.requires.len_value; b_value = c.requires.b_value; slot_value = (c.requires.slot_value, (search rules)) }
 
 pub returns : goal.returns
 returns c = let a = c.args in λ f q. fixed-by a.b a.len f a.slot a.e q c.front_guid-guid.ensures.fields c.front_sum-parts.ensures

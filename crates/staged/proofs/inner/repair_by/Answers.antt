@@ -9,12 +9,12 @@ use Rattle.staged.proofs.inner.repair_by.Goals as goal
 pub kept_guid-guid-requires : goal.kept_guid-guid-requires
 kept_guid-guid-requires c = (omega (arith, (room-ok _ _ c.requires.len_value.0).least), c.requires.len_value.1)
 
-pub u32_at-parts-requires : goal.u32_at-parts-requires
-u32_at-parts-requires c = omega (arith, c.header_in-at.ensures.1, (room-ok _ _ c.requires.len_value.0).least, c.requires.len_value.1)
+pub get-parts-requires : goal.get-parts-requires
+get-parts-requires c = omega (arith, c.header_in-at.ensures.1, (room-ok _ _ c.requires.len_value.0).least, c.requires.len_value.1)
 
 pub returns : goal.returns
 returns c =
     let a = c.args in
     λ f q.
     repair-made a.b a.len f a.back a.copy.now q c.kept_guid-guid.ensures.fields
-    (sum-held a.b a.len (side_of a.back) a.copy.now c.header_in-at.ensures.0 (omega (arith, (room-ok _ _ c.requires.len_value.0).least)) c.requires.copy_value c.u32_at-parts.ensures)
+    (sum-held a.b a.len (side_of a.back) a.copy.now c.header_in-at.ensures.0 (omega (arith, (room-ok _ _ c.requires.len_value.0).least)) c.requires.copy_value c.get-parts.ensures)

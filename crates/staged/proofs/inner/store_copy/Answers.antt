@@ -7,7 +7,7 @@ use Rattle.tables.proofs.Good.{room-ok}
 use Rattle.staged.proofs.inner.store_copy.Goals as goal
 
 pub put_header-requires : goal.put_header-requires
-put_header-requires c = record { rows = c.requires.rows; len_value = (c.requires.len_value.0, c.requires.len_value.2) }
+put_header-requires c = (c.requires.0, c.requires.2)
 
 pub shape_of-copy-then-header : goal.shape_of-copy-then-header
 shape_of-copy-then-header c = ap length c.put_header.ensures ∙ simp length-sets
@@ -16,7 +16,7 @@ pub returns-then-header : goal.returns-then-header
 returns-then-header c = rw c.if-header.true c.put_header.ensures
 
 pub put_slot-requires : goal.put_slot-requires
-put_slot-requires c = record { b_bound = ((room-ok _ _ c.requires.len_value.0).most, c.requires.len_value.1); copy_len = (c.requires.len_value.2, (search rules)) }
+put_slot-requires c = record { b_bound = ((room-ok _ _ c.requires.0).most, c.requires.1); copy_len = (c.requires.2, (search rules)) }
 
 pub shape_of-copy : goal.shape_of-copy
 shape_of-copy c = ap length c.put_slot.ensures ∙ simp length-sets

@@ -14,13 +14,13 @@ use Rattle.staged.proofs.Places.{lent-sets, header-fits, header-from}
 use Rattle.staged.proofs.inner.store_header.Goals as goal
 
 pub copy_place-place-requires : goal.copy_place-place-requires
-copy_place-place-requires c = c.requires.img_value
+copy_place-place-requires c = c.requires
 
 pub overflow_add-size : goal.overflow_add-size
-overflow_add-size c = omega (arith, (room-ok _ _ c.requires.img_value).most, c.copy_place-place.ensures.1)
+overflow_add-size c = omega (arith, (room-ok _ _ c.requires).most, c.copy_place-place.ensures.1)
 
 pub overflow_add-at : goal.overflow_add-at
-overflow_add-at c = omega (arith, (room-ok _ _ c.requires.img_value).most, c.copy_place-place.ensures.1)
+overflow_add-at c = omega (arith, (room-ok _ _ c.requires).most, c.copy_place-place.ensures.1)
 
 pub slice_bounds-put_header-end : goal.slice_bounds-put_header-end
 slice_bounds-put_header-end c = omega (arith, c.copy_place-place.ensures.1)
@@ -28,13 +28,13 @@ slice_bounds-put_header-end c = omega (arith, c.copy_place-place.ensures.1)
 pub put_header-requires : goal.put_header-requires
 put_header-requires c =
     let a = c.args in
-    record { rows = c.requires.rows; len_value = (c.requires.img_value, length-lent a.img.now c.copy_place-place.result.0 (a.b + 16384) c.copy_place-place.ensures.1) }
+    (c.requires, length-lent a.img.now c.copy_place-place.result.0 (a.b + 16384) c.copy_place-place.ensures.1)
 
 pub returns : goal.returns
 unfolding header_store
 returns c =
     let a = c.args in
     let h : List ℕ = head_block a.b (length a.img.now) (side_of a.back) a.guid a.parts in
-    (let a = c.args in lent-sets a.img.now c.copy_place-place.result.0 (a.b + 16384) (header_in (side_of a.back)) (head_block a.b (length a.img.now) (side_of a.back) a.guid a.parts) c.copy_place-place.ensures.1 (header-fits a.b (length a.img.now) (side_of a.back) a.guid a.parts (room-ok _ _ c.requires.img_value)) c.put_header.ensures)
+    (let a = c.args in lent-sets a.img.now c.copy_place-place.result.0 (a.b + 16384) (header_in (side_of a.back)) (head_block a.b (length a.img.now) (side_of a.back) a.guid a.parts) c.copy_place-place.ensures.1 (header-fits a.b (length a.img.now) (side_of a.back) a.guid a.parts (room-ok _ _ c.requires)) c.put_header.ensures)
     ∙ ap (λ (p : ℕ). sets a.img.now (p + header_in (side_of a.back)) h) c.copy_place-place.ensures.0
-    ∙ ap (λ (p : ℕ). sets a.img.now p h) (header-from a.b (length a.img.now) (room-ok _ _ c.requires.img_value) (side_of a.back))
+    ∙ ap (λ (p : ℕ). sets a.img.now p h) (header-from a.b (length a.img.now) (room-ok _ _ c.requires) (side_of a.back))

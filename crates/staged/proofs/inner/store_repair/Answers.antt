@@ -19,7 +19,7 @@ returns-then-j-r c =
     repair-block a.r a.k a.img.now c.requires.len_value.1 c.requires.le_k.0 c.if-j-r.true c.store_block.ensures
 
 pub store_header-requires : goal.store_header-requires
-store_header-requires c = record { rows = c.requires.rows; img_value = rw c.requires.len_value.1 c.requires.len_value.0 }
+store_header-requires c = rw c.requires.len_value.1 c.requires.len_value.0
 
 pub returns : goal.returns
 returns c =

@@ -28,7 +28,7 @@ slice_bounds-store_copy-end c = omega (arith, c.copy_place-place.ensures.1, c.re
 pub store_copy-requires : goal.store_copy-requires
 store_copy-requires c =
     let a = c.args in
-    record { rows = c.requires.rows; len_value = (c.requires.len_value.0, c.requires.len_value.1, length-lent a.img.now c.copy_place-place.result.0 (a.u.b + 16384) (omega (arith, c.copy_place-place.ensures.1, c.requires.len_value.2))) }
+    (c.requires.len_value.0, c.requires.len_value.1, length-lent a.img.now c.copy_place-place.result.0 (a.u.b + 16384) (omega (arith, c.copy_place-place.ensures.1, c.requires.len_value.2)))
 
 pub returns : goal.returns
 returns c =

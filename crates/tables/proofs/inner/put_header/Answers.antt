@@ -8,8 +8,8 @@ use Rattle.tables.proofs.inner.put_header.Goals as goal
 pub put_block-requires : goal.put_block-requires
 put_block-requires c =
     let s = c in
-    let r = room-ok _ _ s.requires.len_value.0 in
-    (omega (arith, r.least), omega (arith, c.header_in-at.ensures.1, s.requires.len_value.1))
+    let r = room-ok _ _ s.requires.0 in
+    (omega (arith, r.least), omega (arith, c.header_in-at.ensures.1, s.requires.1))
 
 pub returns : goal.returns
 unfolding head_block

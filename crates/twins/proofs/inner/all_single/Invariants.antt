@@ -1,7 +1,7 @@
 -- `twins::inner::all_single` meets its contract. The invariant: no two of the entries that were passed are twins, and the set has the numbers of the used ones. Assumes nothing.
 use mathlib.Core.Path.{◌≡◌}
 use mathlib.Core.Bool.{true, not}
-use Prim.Native.Nat.{ℕ, ◌-◌, ◌≤◌}
+use Prim.Native.Nat.{ℕ}
 use lib.ListN.{length}
 use Rattle.units.specs.Bytes.{part}
 use Rattle.tables.specs.Checks.{all}
@@ -11,9 +11,5 @@ use Rattle.twins.proofs.inner.all_single.Given as goal
 
 abbrev pub invariant-loop-k : goal.invariant-loop-k
 invariant-loop-k l =
-    (l.k ≤ 128)
-    × (all l.k (λ (i : ℕ). all i (λ (j : ℕ). not (twins (entry (part l.copy l.at.0 16384) i) (entry (part l.copy l.at.0 16384) j)))) ≡ true)
-    × (Marked (part l.copy l.at.0 16384) l.k l.m × (length l.m ≡ 64))
-
-abbrev pub decreases-loop-k : goal.decreases-loop-k
-decreases-loop-k l = 128 - l.k
+    (all l.k (λ (i : ℕ). all i (λ (j : ℕ). not (twins (entry (part l.copy l.at.0 16384) i) (entry (part l.copy l.at.0 16384) j)))) ≡ true)
+    × Marked (part l.copy l.at.0 16384) l.k l.m × (length l.m ≡ 64)

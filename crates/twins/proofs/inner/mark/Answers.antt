@@ -10,4 +10,4 @@ pub returns : goal.returns
 unfolding folded
 returns c =
     let a = c.args in
-    ap₂ (λ (x y : ℕ). folded (bit_xor x y)) c.u64_at.ensures c.u64_at-2.ensures ∙ mark-at a.copy.now a.own.0 c.guid_place-guid.ensures
+    ap₂ (λ (x y : ℕ). folded (bit_xor x y)) c.get.ensures c.get-2.ensures ∙ mark-at a.copy.now a.own.0 c.guid_place-guid.ensures

@@ -11,7 +11,7 @@ use Rattle.tables.proofs.EntryLaws.{entry_at}
 use Rattle.twins.proofs.inner.none_below.Goals as goal
 
 pub loop-j-init : goal.loop-j-init
-loop-j-init c = (omega arith, all_start _)
+loop-j-init c = all_start _
 
 pub bears-requires : goal.bears-requires
 bears-requires c = (omega (arith, c.entry_place.ensures), c.requires.2)
@@ -28,7 +28,7 @@ returns-then-bears c =
 pub loop-j-preserved : goal.loop-j-preserved
 loop-j-preserved c =
     let l = c.loop-j in
-    (omega arith, all_more l.j _ l.invariant.1 (ap not (sym (found c.args.copy.now c.args.at.0 c.loop-j.j c.args.g.now (omega arith) c.entry_place.ensures c.bears.ensures) ∙ c.if-bears.false)))
+    all_more l.j _ l.invariant (ap not (sym (found c.args.copy.now c.args.at.0 c.loop-j.j c.args.g.now (omega arith) c.entry_place.ensures c.bears.ensures) ∙ c.if-bears.false))
 
 pub returns : goal.returns
-returns c = all_end c.loop-j.j _ _ (omega arith) (omega arith) c.loop-j.invariant.1
+returns c = all_end c.loop-j.j _ _ (omega arith) (omega arith) c.loop-j.invariant

@@ -12,9 +12,6 @@ use Rattle.tables.proofs.EntryLaws.{entry_at, own-used, twins-unused}
 use Rattle.twins.proofs.Laws.{guid-at, own-twins}
 use Rattle.twins.proofs.inner.single_below.Goals as goal
 
-pub nil_type_at-requires : goal.nil_type_at-requires
-nil_type_at-requires c = omega (arith, c.entry_place-own.ensures)
-
 -- whether entry k has the nil type, as the code finds it
 nil : {r : Bool} (xs : List ℕ) {o p : ℕ} → p ≡ o → r ≡ all_zero (part xs p 16) → r ≡ all_zero (part xs o 16)
 nil xs q e = e ∙ ap (λ (o : ℕ). all_zero (part xs o 16)) q
@@ -23,15 +20,6 @@ pub returns-then-nil_type_at : goal.returns-then-nil_type_at
 returns-then-nil_type_at c =
     let a = c.args in
     sym (all_of a.k _ (λ j h. ap not (twins-unused _ _ (own-used a.copy.now a.at.0 a.k (omega arith) (nil a.copy.now c.entry_place-own.ensures c.nil_type_at.ensures) ∙ ap not c.if-nil_type_at.true))))
-
-pub guid_place-guid-requires : goal.guid_place-guid-requires
-guid_place-guid-requires c = omega (arith, c.entry_place-own.ensures)
-
-pub overflow_add-from : goal.overflow_add-from
-overflow_add-from c = omega (arith, c.guid_place-guid.ensures, c.entry_place-own.ensures)
-
-pub slice_bounds-none_below-end : goal.slice_bounds-none_below-end
-slice_bounds-none_below-end c = omega (arith, c.guid_place-guid.ensures, c.entry_place-own.ensures)
 
 pub none_below-requires : goal.none_below-requires
 none_below-requires c =

@@ -1,6 +1,7 @@
 -- `uefi::inner::array_place` meets its contract: behind 1 and 7 the header's own sum of the array has the refusals that are left. Assumes nothing.
 use mathlib.Core.Path.{sym, ap, ◌∙◌}
-use Rattle.header.specs.Meanings.{sum_means}
+use Rattle.units.proofs.Results.{handed}
+use Rattle.units.specs.Meanings.{means}
 use Rattle.uefi.proofs.ArrayWays.{sum_fits, array_size, array-each, array-unsummed, array-other, array-good}
 use Rattle.std.specs.Prelude.{not}
 use Rattle.uefi.proofs.inner.array_place.Goals as goal
@@ -19,26 +20,27 @@ returns-then-sum-h c =
     let whole = found in
     let sized = whole in
     array-other _ _ _ sized.good_block_size.ensures (ap not sized.if-not-good_block_size.false) whole.good_each.ensures (ap not whole.if-not-good_each.false)
-    (sym found.parts_sum.ensures ∙ ap sum_means found.in-Sum.is) c.if-sum-h.true
+    (sym found.in_ok-sum.ensures) c.if-sum-h.true
 
 pub place-requires : goal.place-requires
 place-requires c =
     let found = c in
-    sum_fits _ _ _ (sym found.parts_sum.ensures ∙ ap sum_means found.in-Sum.is)
+    sum_fits _ _ _ (sym found.in_ok-sum.ensures)
 
-pub returns-in-Refused : goal.returns-in-Refused
-returns-in-Refused c =
+pub returns-in_err-sum : goal.returns-in_err-sum
+returns-in_err-sum c =
     let found = c in
     let whole = found in
     let sized = whole in
-    array-unsummed _ _ _ sized.good_block_size.ensures (ap not sized.if-not-good_block_size.false) whole.good_each.ensures (ap not whole.if-not-good_each.false)
-    (sym found.parts_sum.ensures ∙ ap sum_means found.in-Refused.is)
+    handed _ _ c.from_residual.ensures.1
+    ∙ array-unsummed _ _ _ sized.good_block_size.ensures (ap not sized.if-not-good_block_size.false) whole.good_each.ensures (ap not whole.if-not-good_each.false)
+    (sym found.in_err-sum.ensures)
 
-pub returns-else-sum-h : goal.returns-else-sum-h
-returns-else-sum-h c =
+pub returns : goal.returns
+returns c =
     let same = c in
     let found = same in
     let whole = found in
     let sized = whole in
     array-good _ _ _ sized.good_block_size.ensures (ap not sized.if-not-good_block_size.false) whole.good_each.ensures (ap not whole.if-not-good_each.false)
-    (sym found.parts_sum.ensures ∙ ap sum_means found.in-Sum.is) same.if-sum-h.false c.place.ensures
+    (sym found.in_ok-sum.ensures) same.if-sum-h.false c.place.ensures

@@ -34,7 +34,7 @@ read_block-requires c =
     let sized = long in
     let p = size-past _ sized.good_block_size.ensures (ap not sized.if-not-good_block_size.false) in
     let start = sized in
-    record { rows = start.requires; le_b = (omega (arith, p.0), omega (arith, last_block (length start.args.img.now) start.args.b (omega (arith, long.if-img-size.false)))) }
+    (omega (arith, p.0), omega (arith, last_block (length start.args.img.now) start.args.b (omega (arith, long.if-img-size.false))))
 
 pub returns : goal.returns
 unfolding backup_by_uefi

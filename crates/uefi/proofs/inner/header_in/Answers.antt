@@ -13,7 +13,7 @@ returns-then-not-is_inside c = in-short _ _ _ _ c.is_inside.ensures (ap not c.if
 pub same_at-requires : goal.same_at-requires
 same_at-requires c =
     let inside = c in
-    omega (arith, inside-yes _ _ _ inside.is_inside.ensures (ap not inside.if-not-is_inside.false), inside.requires.le_b)
+    omega (arith, inside-yes _ _ _ inside.is_inside.ensures (ap not inside.if-not-is_inside.false), inside.requires)
 
 pub returns-then-not-same_at : goal.returns-then-not-same_at
 returns-then-not-same_at c =
@@ -23,7 +23,7 @@ returns-then-not-same_at c =
 pub header_at-h-requires : goal.header_at-h-requires
 header_at-h-requires c =
     let inside = c in
-    omega (arith, inside-yes _ _ _ inside.is_inside.ensures (ap not inside.if-not-is_inside.false), inside.requires.le_b)
+    omega (arith, inside-yes _ _ _ inside.is_inside.ensures (ap not inside.if-not-is_inside.false), inside.requires)
 
 pub returns-then-bad_stated : goal.returns-then-bad_stated
 returns-then-bad_stated c =
@@ -37,7 +37,7 @@ sized_sum_at-requires c =
     let inside = c in
     let p = inside-yes _ _ _ inside.is_inside.ensures (ap not inside.if-not-is_inside.false) in
     let s = stated-yes _ _ c.bad_stated.ensures c.if-bad_stated.false in
-    record { rows = inside.requires.rows; le_n = (omega (arith, s.0), omega (arith, s.1, p)) }
+    (omega (arith, s.0), omega (arith, s.1, p))
 
 pub returns-then-sized_sum_at-h : goal.returns-then-sized_sum_at-h
 returns-then-sized_sum_at-h c =

@@ -1,6 +1,6 @@
 -- `uefi::inner::plan_with` meets its contract. Assumes nothing.
 use mathlib.Core.Path.{sym, ap, ◌∙◌}
-use Rattle.units.specs.Meanings.{placed_means}
+use Rattle.units.specs.Meanings.{means}
 use Rattle.uefi.proofs.ArrayWays.{array_tells}
 use Rattle.uefi.proofs.Planned.{array-refused, array-listed}
 use Rattle.uefi.proofs.inner.plan_with.Goals as goal
@@ -8,15 +8,15 @@ use Rattle.uefi.proofs.inner.plan_with.Goals as goal
 pub listing_by_type-requires : goal.listing_by_type-requires
 listing_by_type-requires c =
     let found = c in
-    let a = array_tells _ _ _ _ (sym found.array_place.ensures ∙ ap placed_means found.in-At.is) in
+    let a = array_tells _ _ _ _ (sym found.array_place.ensures ∙ ap means found.in-Ok.is) in
     (a.least, a.within)
 
-pub returns-in-Refused : goal.returns-in-Refused
-returns-in-Refused c =
+pub returns-in-Err : goal.returns-in-Err
+returns-in-Err c =
     let found = c in
-    array-refused _ _ _ (sym found.array_place.ensures ∙ ap placed_means found.in-Refused.is) c.refused_plainly.ensures
+    array-refused _ _ _ (sym found.array_place.ensures ∙ ap means found.in-Err.is) c.refused_plainly.ensures
 
-pub returns-in-At : goal.returns-in-At
-returns-in-At c =
+pub returns-in-Ok : goal.returns-in-Ok
+returns-in-Ok c =
     let found = c in
-    array-listed _ _ _ (sym found.array_place.ensures ∙ ap placed_means found.in-At.is) c.listing_by_type.ensures
+    array-listed _ _ _ (sym found.array_place.ensures ∙ ap means found.in-Ok.is) c.listing_by_type.ensures

@@ -13,7 +13,7 @@ returns-then-not-good_block_size c = rw (← c.good_block_size.ensures, (ap not 
 pub read_block-requires : goal.read_block-requires
 read_block-requires c =
     let p = size-past _ c.good_block_size.ensures (ap not c.if-not-good_block_size.false) in
-    record { rows = c.requires; le_b = (omega (arith, p.0), omega (arith, p.1)) }
+    (omega (arith, p.0), omega (arith, p.1))
 
 pub returns : goal.returns
 unfolding primary_by_uefi

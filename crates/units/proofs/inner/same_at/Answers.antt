@@ -1,23 +1,19 @@
--- `units::inner::same_at` meets its contract. The invariant: what was or-ed is zero and the rest is the same exactly where the whole part is the same.
--- Assumes nothing.
-use mathlib.Core.Path.{sym, ◌∙◌}
-use Prim.Native.Nat.{◌+◌}
-use native.Mathlib.Nat.{add-zero, sub-zero}
-use native.Mathlib.Omega.{arith}
-use Rattle.units.proofs.Laws.{same_more, same_end}
+-- `units::inner::same_at` meets its contract: the chain gives the pairs of the two lists, and the fold over them is `fold_same`. Assumes nothing.
+use Rattle.std.proofs.Common.{rules, ◌≡◌, ◌∙◌, ℕ, fold, ap, nat_eq, length}
+use Rattle.std.specs.Int.Bits.{bit_or, bit_xor}
+use Rattle.std.specs.List.{zip}
+use Rattle.std.proofs.lemmas.Iterator.{YieldsList-from_slice, YieldsList-from_zip}
+use Rattle.std.proofs.lemmas.Iterator.Consumers.{fold_from_yields_List}
+use Rattle.units.specs.Bytes.{part}
+use Rattle.units.proofs.Lists.{length_part}
+use Rattle.units.proofs.Laws.{fold_same}
 use Rattle.units.proofs.inner.same_at.Goals as goal
-
-pub loop-i-init : goal.loop-i-init
-loop-i-init c = (omega arith, simp (add-zero, sub-zero))
-
-pub loop-i-preserved : goal.loop-i-preserved
-loop-i-preserved c =
-    let a = c.args in
-    let l = c.loop-i in
-    (omega arith, same_more a.s.now a.at a.other.now l.acc l.i (omega arith) (omega arith) ∙ l.invariant.1)
 
 pub returns : goal.returns
 returns c =
-    let a = c.args in
-    let l = c.loop-i in
-    sym (same_end a.s.now (a.at + l.i) a.other.now l.acc l.i (omega arith)) ∙ l.invariant.1
+    let other = c.args.other.now in
+    let own = part c.args.s.now c.args.at (length other) in
+    let e : c.fold.result ≡ fold (λ (a : ℕ) (p : ℕ × ℕ). bit_or a (bit_xor p.0 p.1)) 0 (zip own other) =
+    fold_from_yields_List _ _ 0 c.fold.result c.fold.ensures.ran
+    (YieldsList-from_zip (YieldsList-from_slice own (search rules)) (YieldsList-from_slice other (search rules))) (λ a x b q k. search rules) in
+    ap (λ r. nat_eq r 0) e ∙ fold_same 0 own other (length_part c.args.s.now c.args.at (length other) c.requires)

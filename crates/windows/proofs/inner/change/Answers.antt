@@ -16,13 +16,13 @@ front_guid-guid-requires c = let r = (room-ok _ _ (let a = c.args in check-good 
 
 pub front_sum-parts-requires : goal.front_sum-parts-requires
 front_sum-parts-requires c =
-    record { rows = c.requires.rows; len_value = ((let a = c.args in check-good a.b a.len (window_tables a.b a.head.now a.tail.now) c.requires.head_len.2).room, omega (arith, c.requires.head_len.0)); b_value = (let a = c.args in check-good a.b a.len (window_tables a.b a.head.now a.tail.now) c.requires.head_len.2).front; slot_value = c.requires.slot_value }
+    record { len_value = ((let a = c.args in check-good a.b a.len (window_tables a.b a.head.now a.tail.now) c.requires.head_len.2).room, omega (arith, c.requires.head_len.0)); b_value = (let a = c.args in check-good a.b a.len (window_tables a.b a.head.now a.tail.now) c.requires.head_len.2).front; slot_value = c.requires.slot_value }
 
 pub change_copy-requires : goal.change_copy-requires
-change_copy-requires c = record { rows = c.requires.rows; len_value = ((let a = c.args in check-good a.b a.len (window_tables a.b a.head.now a.tail.now) c.requires.head_len.2).room, c.requires.head_len.1); slot_value = c.requires.slot_value }
+change_copy-requires c = record { len_value = ((let a = c.args in check-good a.b a.len (window_tables a.b a.head.now a.tail.now) c.requires.head_len.2).room, c.requires.head_len.1); slot_value = c.requires.slot_value }
 
 pub change_at-requires : goal.change_at-requires
-change_at-requires c = record { rows = c.requires.rows; len_value = ((let a = c.args in check-good a.b a.len (window_tables a.b a.head.now a.tail.now) c.requires.head_len.2).room, omega (arith, c.requires.head_len.0)); slot_value = c.requires.slot_value }
+change_at-requires c = record { len_value = ((let a = c.args in check-good a.b a.len (window_tables a.b a.head.now a.tail.now) c.requires.head_len.2).room, omega (arith, c.requires.head_len.0)); slot_value = c.requires.slot_value }
 
 pub shape_of-head : goal.shape_of-head
 shape_of-head c = ap length c.change_at.ensures ∙ simp length-sets

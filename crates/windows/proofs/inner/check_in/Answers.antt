@@ -34,7 +34,7 @@ pub copies_check-requires : goal.copies_check-requires
 copies_check-requires c =
     let a = c.args in
     let q = (let a = c.args in fits_by a.b a.blocks a.head.now a.tail.now (sym c.window_check-wrong.ensures ∙ c.if-wrong-ne0.false)) in
-    record { rows = c.requires; len_value = (q.roomy, length-lent a.head.now a.b (a.b + 16384) (omega (arith, q.head-long)), q.tail-long) }
+    (q.roomy, length-lent a.head.now a.b (a.b + 16384) (omega (arith, q.head-long)), q.tail-long)
 
 pub returns : goal.returns
 returns c =

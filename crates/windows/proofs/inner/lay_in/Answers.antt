@@ -23,12 +23,12 @@ pub put_mbr-requires : goal.put_mbr-requires
 put_mbr-requires c = omega (arith, c.requires.1, (room-ok _ _ c.requires.0).least)
 
 pub lay_copy-requires : goal.lay_copy-requires
-lay_copy-requires c = record { rows = c.table-t.ensures; len_value = (c.requires.0, c.requires.2) }
+lay_copy-requires c = (c.requires.0, c.requires.2)
 
 pub lay_at-requires : goal.lay_at-requires
 lay_at-requires c =
     let p : length c.put_mbr.new.img ≡ length c.args.head.now = ap length (c.put_mbr.ensures ∙ ap (λ (l : Lba). sets c.args.head.now 0 (mbr l.0)) c.own_block.ensures) ∙ simp length-sets in
-    record { rows = c.table-t.ensures; len_value = (c.requires.0, omega (arith, p, c.requires.1)) }
+    (c.requires.0, omega (arith, p, c.requires.1))
 
 pub shape_of-head : goal.shape_of-head
 shape_of-head c =

@@ -11,9 +11,6 @@ use Rattle.card.specs.Calls.{entry_check, put_check}
 use Rattle.windows.proofs.Ways.{then_found, then-passed, why-fits}
 use Rattle.windows.proofs.inner.put_check_in.Goals as goal
 
-pub check_in-found-requires : goal.check_in-found-requires
-check_in-found-requires c = c.requires.0
-
 abbrev more : ℕ → ℕ → List ℕ → ℕ → ℕ → Tables → Why
 more B s e reserved n t = entry_check B n t.front.array s e reserved
 
@@ -38,7 +35,7 @@ slice_bounds-front-end c = omega (arith, (let a = c.args in why-fits a.b a.block
 pub entry_check-requires : goal.entry_check-requires
 entry_check-requires c =
     let q = (let a = c.args in why-fits a.b a.blocks a.head.now a.tail.now (check a.b) c.check_in-found.ensures c.if-found-ne0.false) in
-    (q.roomy, length-lent c.args.head.now c.args.b (c.args.b + 16384) (omega (arith, q.head-long)), c.requires.1)
+    (q.roomy, length-lent c.args.head.now c.args.b (c.args.b + 16384) (omega (arith, q.head-long)), c.requires)
 
 pub returns : goal.returns
 unfolding put_check

@@ -6,9 +6,6 @@ use Rattle.windows.proofs.Ways.{why-fits}
 use Rattle.windows_listing.proofs.Ways.{plan-refused, plan-listed}
 use Rattle.windows_listing.proofs.inner.plan_in.Goals as goal
 
-pub check_in-found-requires : goal.check_in-found-requires
-check_in-found-requires c = c.table-t.ensures
-
 pub returns-then-found-ne0 : goal.returns-then-found-ne0
 returns-then-found-ne0 c = let a = c.args in plan-refused a.b a.blocks a.head.now a.tail.now c.check_in-found.ensures c.if-found-ne0.true c.reason.ensures c.refused.ensures
 

@@ -23,9 +23,6 @@ slots B s n t = slot_check B n t s
 abbrev more : ℕ → ℕ → Tables → Why
 more s n t = when (not (used (slot_entry t s))) (plain 23)
 
-pub slot_check_in-found-requires : goal.slot_check_in-found-requires
-slot_check_in-found-requires c = c.requires
-
 pub returns-then-found-ne0 : goal.returns-then-found-ne0
 unfolding used_check
 returns-then-found-ne0 c = let a = c.args in then_found a.b a.blocks a.head.now a.tail.now (slots a.b a.slot.0) (more a.slot.0) c.slot_check_in-found.ensures c.if-found-ne0.true

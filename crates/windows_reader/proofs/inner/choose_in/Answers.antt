@@ -37,7 +37,7 @@ pub choose_copy-requires : goal.choose_copy-requires
 choose_copy-requires c =
     let a = c.args in
     let q = (fits_by a.b a.blocks a.head.now a.tail.now (sym c.window_check-wrong.ensures ∙ c.if-wrong-ne0.false)) in
-    record { rows = c.table-t.ensures; len_value = (q.roomy, length-lent a.head.now a.b (a.b + 16384) (omega (arith, q.head-long)), q.tail-long) }
+    (q.roomy, length-lent a.head.now a.b (a.b + 16384) (omega (arith, q.head-long)), q.tail-long)
 
 pub returns : goal.returns
 returns c =

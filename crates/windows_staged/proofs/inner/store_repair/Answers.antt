@@ -13,18 +13,18 @@ use Rattle.windows_staged.proofs.Ways.{stored_same}
 use Rattle.windows_staged.proofs.inner.store_repair.Goals as goal
 
 pub overflow_sub-j : goal.overflow_sub-j
-overflow_sub-j c = c.requires.len_value.3
+overflow_sub-j c = c.requires.3
 
 pub nonzero_div-r : goal.nonzero_div-r
 nonzero_div-r c =
-    let room : Room c.args.r.b c.args.r.len = room-ok _ _ c.requires.len_value.0 in
+    let room : Room c.args.r.b c.args.r.len = room-ok _ _ c.requires.0 in
     omega (arith, room.least)
 
 pub store_block-requires : goal.store_block-requires
 store_block-requires c =
-    let room : Room c.args.r.b c.args.r.len = room-ok _ _ c.requires.len_value.0 in
+    let room : Room c.args.r.b c.args.r.len = room-ok _ _ c.requires.0 in
     let a = c.args in
-    (room.most, c.requires.len_value.1, c.requires.len_value.2, block_inside a.r.b a.r.len (a.k - 2) room c.if-j-r.true)
+    (room.most, c.requires.1, c.requires.2, block_inside a.r.b a.r.len (a.k - 2) room c.if-j-r.true)
 
 pub returns-then-j-r : goal.returns-then-j-r
 returns-then-j-r c =
@@ -33,7 +33,7 @@ returns-then-j-r c =
     (λ _. subst (λ (d : Side). BlockStored a.r.b d (a.k - 2) a.head.now a.tail.now c.store_block.new.head c.store_block.new.tail) (other-side a.r.back) c.store_block.ensures, λ q. absurd (stored_same (sym y ∙ q)))
 
 pub store_header-requires : goal.store_header-requires
-store_header-requires c = record { rows = c.requires.rows; len_value = (c.requires.len_value.0, c.requires.len_value.1, c.requires.len_value.2) }
+store_header-requires c = (c.requires.0, c.requires.1, c.requires.2)
 
 pub returns : goal.returns
 returns c =

@@ -16,7 +16,7 @@ use Rattle.staged.proofs.Places.{lent-sets, store-fits}
 use Rattle.windows_staged.proofs.inner.store_stage.Goals as goal
 
 pub store_copy-requires : goal.store_copy-requires
-store_copy-requires c = record { rows = c.requires.rows; len_value = (c.requires.len_value.0, c.requires.len_value.1, c.requires.len_value.3) }
+store_copy-requires c = (c.requires.0, c.requires.1, c.requires.3)
 
 pub shape_of-tail-then-k-lt3 : goal.shape_of-tail-then-k-lt3
 shape_of-tail-then-k-lt3 c = ap length c.store_copy.ensures ∙ simp length-sets
@@ -25,18 +25,18 @@ pub returns-then-k-lt3 : goal.returns-then-k-lt3
 returns-then-k-lt3 c = let a = c.args in rw (lt-ltb a.k 3 c.if-k-lt3.true) (refl, c.store_copy.ensures)
 
 pub overflow_add-size : goal.overflow_add-size
-overflow_add-size c = omega (arith, (room-ok _ _ c.requires.len_value.0).most)
+overflow_add-size c = omega (arith, (room-ok _ _ c.requires.0).most)
 
 pub overflow_add-size-2 : goal.overflow_add-size-2
-overflow_add-size-2 c = omega (arith, (room-ok _ _ c.requires.len_value.0).most)
+overflow_add-size-2 c = omega (arith, (room-ok _ _ c.requires.0).most)
 
 pub slice_bounds-store_copy-end : goal.slice_bounds-store_copy-end
-slice_bounds-store_copy-end c = omega (arith, c.requires.len_value.2)
+slice_bounds-store_copy-end c = omega (arith, c.requires.2)
 
 pub store_copy-requires-2 : goal.store_copy-requires-2
 store_copy-requires-2 c =
     let a = c.args in
-    record { rows = c.requires.rows; len_value = (c.requires.len_value.0, c.requires.len_value.1, length-lent a.head.now a.u.b (a.u.b + 16384) (omega (arith, c.requires.len_value.2))) }
+    (c.requires.0, c.requires.1, length-lent a.head.now a.u.b (a.u.b + 16384) (omega (arith, c.requires.2)))
 
 pub returns : goal.returns
 returns c =
@@ -44,7 +44,7 @@ returns c =
     let a = c.args in
     let header : Bool = eqb a.k 2 || eqb a.k 4 in
     rw (le-ltb a.k 3 c.if-k-lt3.false) (
-      lent-sets a.head.now a.u.b (a.u.b + 16384) (store_in a.u.b Front a.u header) (store_bytes a.u.b a.u.len Front a.u header) (omega (arith, c.requires.len_value.2))
-          (store-fits a.u.b a.u.len Front a.u header (room-ok _ _ c.requires.len_value.0) c.requires.len_value.1 long) c.store_copy-2.ensures,
+      lent-sets a.head.now a.u.b (a.u.b + 16384) (store_in a.u.b Front a.u header) (store_bytes a.u.b a.u.len Front a.u header) (omega (arith, c.requires.2))
+          (store-fits a.u.b a.u.len Front a.u header (room-ok _ _ c.requires.0) c.requires.1 long) c.store_copy-2.ensures,
       refl,
     )
