@@ -41,8 +41,7 @@ extern "C" {
 /* The version of the library that this header belongs to. */
 #define CARD_VERSION "0.1.0"
 
-/* The bytes of stack that a call needs at most. Of these the check sum's table is 16,384, in every call that sums anything but one header of 92 bytes; all else was at
-   most 2,632 when it was last measured. tests/c/stack.c measures every call, and makes it on a thread of 24 KiB. */
+/* The bytes of stack that a call needs at most. tests/c/stack.c measures every call, and makes it on a thread of 24 KiB. */
 #define CARD_STACK 20480
 
 /* The numbers that a call comes back with. A call's tests run in the order in which its numbers are listed beside it; 1 is always first. */
