@@ -238,7 +238,7 @@ race: lib
 # Compares every call of the library, its answers and every lent byte, with a model that was written from the documents alone (tests/model). Variables: SEED, SECONDS.
 model: lib
 	python3 tests/model/run.py --alone --seed 1 --cases 75000
-	python3 tests/model/run.py $(if $(SEED),--seed $(SEED)) --seconds $(or $(SECONDS),30)
+	python3 tests/model/run.py $(if $(SEED),--seed $(SEED)) $(if $(SECONDS),--seconds $(SECONDS),--cases 250000)
 
 # Runs 171 images that once showed a defect, or that every reader must survive, through every reader, and compares what each says (tests/corpus).
 corpus: lib
