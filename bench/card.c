@@ -139,7 +139,7 @@ int main(void) {
     alike = false;
     prepare(1 << 20, 512, 120);
     size_t none = stack_of(do_nothing);
-    printf("\nbytes of stack, beside the %zu of a thread that calls nothing (the check sum's table is 16,384 of them)\n", none);
+    printf("\nbytes of stack, beside the %zu of a thread that calls nothing\n", none);
     for (int k = 1; k < KINDS; k++) printf("%14s %6zu\n", calls[k].name, stack_of(calls[k].call) - none);
     printf("%14s %6zu\n", "lay", stack_of(do_lay) - none);
     return 0;

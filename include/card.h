@@ -12,8 +12,8 @@
    - While a call runs, nobody else writes a slice that is lent to it: no other thread, no other process and no device. A call that only reads
      a slice lets others read it too.
    - A bool is 0 or 1.
-   - There are CARD_STACK bytes of stack below the caller's frame. A thread of 24 KiB can make every call; one of 20 KiB cannot, since glibc keeps
-     some 4 KiB of a thread's stack for itself.
+   - There are CARD_STACK bytes of stack below the caller's frame. A thread of 24 KiB can make every call, though glibc
+     keeps some 4 KiB of a thread's stack for itself.
    An answer's bytes between its fields, and after the last one, hold nothing: compare answers field by field, never by memcmp.
    Nothing of this header is checked against the library's source: tests/c/boundary.c tries each call. The library keeps no state between calls.
 

@@ -3,6 +3,7 @@
 use crate::say::Refused;
 use crate::script::{Command, Line};
 use crate::{bytes, say};
+use console::Output;
 use partition::{Flags, Partition};
 use std::io::Write;
 use std::{fmt, io};
@@ -76,14 +77,24 @@ fn change(img: &mut [u8], b: u64, line: Line<'_>) -> Result<(), Reason> {
     }
 }
 
-pub fn judge(img: &mut [u8], b: u64, line: Line<'_>, out: &mut impl Write) -> io::Result<()> {
+pub fn judge(
+    img: &mut [u8],
+    b: u64,
+    line: Line<'_>,
+    out: &mut Output<impl Write>,
+) -> io::Result<()> {
     let before = crc32::crc32(img);
     let v = change(img, b, line);
     say::verdict(v, crc32::crc32(img) == before, out)
 }
 
 // A payload write: how many bytes, the place, the slot, and the byte that they all are. At most 4,097 are written.
-pub fn write(img: &mut [u8], b: u64, line: Line<'_>, out: &mut impl Write) -> io::Result<()> {
+pub fn write(
+    img: &mut [u8],
+    b: u64,
+    line: Line<'_>,
+    out: &mut Output<impl Write>,
+) -> io::Result<()> {
     let payload = [line.byte(3); 4097];
     let n = line.count(0);
     if n > payload.len() {
@@ -94,7 +105,7 @@ pub fn write(img: &mut [u8], b: u64, line: Line<'_>, out: &mut impl Write) -> io
     say::stored(v, crc32::crc32(img) == before, out)
 }
 
-pub fn used(img: &[u8], b: u64, out: &mut impl Write) -> io::Result<()> {
+pub fn used(img: &[u8], b: u64, out: &mut Output<impl Write>) -> io::Result<()> {
     match card::count_used(img, b) {
         Ok(n) => writeln!(out, ": {n}"),
         Err(w) => writeln!(out, ": {}", Refused(w)),
@@ -102,7 +113,7 @@ pub fn used(img: &[u8], b: u64, out: &mut impl Write) -> io::Result<()> {
 }
 
 // The next used slot after one.
-pub fn after(img: &[u8], b: u64, line: Line<'_>, out: &mut impl Write) -> io::Result<()> {
+pub fn after(img: &[u8], b: u64, line: Line<'_>, out: &mut Output<impl Write>) -> io::Result<()> {
     match card::next_used(img, b, line.slot(0)) {
         Ok(Some(next)) => writeln!(out, ": slot {}", next.0),
         Ok(None) => writeln!(out, ": none"),
@@ -111,7 +122,7 @@ pub fn after(img: &[u8], b: u64, line: Line<'_>, out: &mut impl Write) -> io::Re
 }
 
 // A used slot by its number among the used ones, counted from 0.
-pub fn get(img: &[u8], b: u64, line: Line<'_>, out: &mut impl Write) -> io::Result<()> {
+pub fn get(img: &[u8], b: u64, line: Line<'_>, out: &mut Output<impl Write>) -> io::Result<()> {
     match card::nth_used(img, b, line.slot(0).0) {
         Ok(Some(e)) => {
             let (first, last) = (e.partition.first_lba.0, e.partition.last_lba.0);
@@ -158,7 +169,7 @@ impl fmt::Display for Names {
 }
 
 // What a slot holds.
-pub fn read(img: &[u8], b: u64, line: Line<'_>, out: &mut impl Write) -> io::Result<()> {
+pub fn read(img: &[u8], b: u64, line: Line<'_>, out: &mut Output<impl Write>) -> io::Result<()> {
     match card::read_slot(img, b, line.slot(0)) {
         Ok(Some(p)) => writeln!(out, ": {}", Whole(p)),
         Ok(None) => writeln!(out, ": empty"),
@@ -167,12 +178,12 @@ pub fn read(img: &[u8], b: u64, line: Line<'_>, out: &mut impl Write) -> io::Res
 }
 
 // The check sum of the image.
-pub fn digest(img: &[u8], out: &mut impl Write) -> io::Result<()> {
+pub fn digest(img: &[u8], out: &mut Output<impl Write>) -> io::Result<()> {
     writeln!(out, ": {:08x}", crc32::crc32(img))
 }
 
 // Whether so many bytes from a byte of a block on are all the same.
-pub fn holds(img: &[u8], b: u64, line: Line<'_>, out: &mut impl Write) -> io::Result<()> {
+pub fn holds(img: &[u8], b: u64, line: Line<'_>, out: &mut Output<impl Write>) -> io::Result<()> {
     let at = bytes::place(line.block(2), b, line.count(1));
     if bytes::filled(img, at, line.count(0), line.byte(3)) {
         writeln!(out, ": yes")

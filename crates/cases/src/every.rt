@@ -1,5 +1,6 @@
 // The numbers of all calls that start with the card check. They are given slot 0 and a nil type, so that a call that does not check first answers 18.
 use crate::say;
+use console::Output;
 use partition::Partition;
 use std::io;
 use std::io::Write;
@@ -49,21 +50,21 @@ fn nth(img: &[u8], b: u64) -> u32 {
     number_of(card::nth_used(img, b, 0))
 }
 
-fn changes(img: &mut [u8], b: u64, out: &mut impl Write) -> io::Result<()> {
+fn changes(img: &mut [u8], b: u64, out: &mut Output<impl Write>) -> io::Result<()> {
     write!(out, ": check {}", check(img, b))?;
     write!(out, ", put {}", put(img, b))?;
     write!(out, ", clear {}", clear(img, b))?;
     write!(out, ", payload {}", payload(img, b))
 }
 
-fn looks(img: &[u8], b: u64, out: &mut impl Write) -> io::Result<()> {
+fn looks(img: &[u8], b: u64, out: &mut Output<impl Write>) -> io::Result<()> {
     write!(out, ", count {}", count(img, b))?;
     write!(out, ", next {}", next(img, b))?;
     write!(out, ", read {}", read(img, b))?;
     write!(out, ", nth {}", nth(img, b))
 }
 
-pub fn call(img: &mut [u8], b: u64, out: &mut impl Write) -> io::Result<()> {
+pub fn call(img: &mut [u8], b: u64, out: &mut Output<impl Write>) -> io::Result<()> {
     let before = crc32::crc32(img);
     changes(img, b, out)?;
     looks(img, b, out)?;

@@ -14,7 +14,7 @@ use std::io;
 use std::io::{Read, Write};
 
 // How many bytes of the script are read.
-const MOST: u64 = 65536;
+const MOST: usize = 65536;
 
 // The byte that all bytes of a new image are.
 const FRESH: u8 = 0xA5;
@@ -27,7 +27,7 @@ struct Image {
 }
 
 // A command that prints a line.
-fn show(img: &mut [u8], b: u64, line: Line<'_>, out: &mut impl Write) -> io::Result<()> {
+fn show(img: &mut [u8], b: u64, line: Line<'_>, out: &mut Output<impl Write>) -> io::Result<()> {
     write!(out, "{b}: ")?;
     out.write_all(line.0)?;
     match line.command() {
@@ -46,7 +46,7 @@ fn show(img: &mut [u8], b: u64, line: Line<'_>, out: &mut impl Write) -> io::Res
 }
 
 // A command of the image. Nothing is printed for a changed byte (flip), for sums made right (seal, table), for a comment and for an empty line.
-fn act(img: &mut [u8], b: u64, line: Line<'_>, out: &mut impl Write) -> io::Result<()> {
+fn act(img: &mut [u8], b: u64, line: Line<'_>, out: &mut Output<impl Write>) -> io::Result<()> {
     match line.command() {
         Command::Flip => bytes::flip(img, b, line),
         Command::Seal => bytes::seal(img, b, line),
@@ -58,7 +58,7 @@ fn act(img: &mut [u8], b: u64, line: Line<'_>, out: &mut impl Write) -> io::Resu
 }
 
 // A new image: how many bytes it has, and its block size.
-fn new_image(space: &mut [u8], line: Line<'_>, out: &mut impl Write) -> io::Result<Image> {
+fn new_image(space: &mut [u8], line: Line<'_>, out: &mut Output<impl Write>) -> io::Result<Image> {
     out.write_all(line.0)?;
     writeln!(out)?;
     space.fill(FRESH);
@@ -69,7 +69,12 @@ fn new_image(space: &mut [u8], line: Line<'_>, out: &mut impl Write) -> io::Resu
 }
 
 // One line of the script. No command is carried out on an image that is longer than the space.
-fn step(space: &mut [u8], image: Image, line: Line<'_>, out: &mut impl Write) -> io::Result<Image> {
+fn step(
+    space: &mut [u8],
+    image: Image,
+    line: Line<'_>,
+    out: &mut Output<impl Write>,
+) -> io::Result<Image> {
     if line.command() == Command::Image {
         return new_image(space, line, out);
     }
@@ -79,26 +84,30 @@ fn step(space: &mut [u8], image: Image, line: Line<'_>, out: &mut impl Write) ->
     Ok(image)
 }
 
-fn play(script: &[u8], out: &mut impl Write) -> io::Result<()> {
+// All lines of the script. Of one that asks for nothing there is nothing to do.
+fn play(script: &[u8], out: &mut Output<impl Write>) -> io::Result<()> {
     let mut space = [FRESH; 57444];
     let mut image = Image { b: 512, n: 0 };
     for line in script.split(|letter| *letter == b'\n') {
-        image = step(&mut space, image, Line(line), out)?;
+        let line = Line(line);
+        if line.command() != Command::Nothing {
+            image = step(&mut space, image, line, out)?;
+        }
     }
     Ok(())
 }
 
 // Reads the script to its end before any line of it is carried out.
-fn run(rt: &HostRuntime, out: &mut impl Write) -> io::Result<()> {
-    let mut script = Vec::new(rt.alloc());
-    rt.stdin().take(MOST).read_to_end(&mut script)?;
-    play(&script, out)
+fn run(input: &mut impl Read, out: &mut Output<impl Write>) -> io::Result<()> {
+    let mut script = [0; MOST];
+    let n = console::read_input(input, &mut script)?;
+    play(&script[..n], out)
 }
 
 fn main(rt: HostRuntime) {
     let mut out = Output::new(rt.stdout());
-    let ended = run(&rt, &mut out);
+    let ended = run(&mut rt.stdin(), &mut out);
     if let Some(failure) = out.failure(&ended) {
-        let _ = eprintln!(rt; "cases: {failure}");
+        console::complain_of(&mut rt.stderr(), "cases", failure);
     }
 }

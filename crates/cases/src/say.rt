@@ -1,4 +1,5 @@
 // The words of an answer.
+use console::Output;
 use std::io::Write;
 use std::{fmt, io};
 use units::{Reason, Refusal};
@@ -24,7 +25,7 @@ pub fn unchanged(is: bool) -> &'static str {
 }
 
 // The end of a line: accepted, or refused and whether the image is as it was.
-pub fn verdict(v: Result<(), Reason>, same: bool, out: &mut impl Write) -> io::Result<()> {
+pub fn verdict(v: Result<(), Reason>, same: bool, out: &mut Output<impl Write>) -> io::Result<()> {
     match v {
         Ok(()) => writeln!(out, ": accepted"),
         Err(w) => writeln!(out, ": {}, {}", Refused(w), unchanged(same)),
@@ -32,7 +33,11 @@ pub fn verdict(v: Result<(), Reason>, same: bool, out: &mut impl Write) -> io::R
 }
 
 // The same of a payload write, with the bytes that it says it stored.
-pub fn stored(v: Result<usize, Reason>, same: bool, out: &mut impl Write) -> io::Result<()> {
+pub fn stored(
+    v: Result<usize, Reason>,
+    same: bool,
+    out: &mut Output<impl Write>,
+) -> io::Result<()> {
     match v {
         Ok(n) => writeln!(out, ": accepted, {n} bytes"),
         Err(w) => writeln!(out, ": {}, {}", Refused(w), unchanged(same)),

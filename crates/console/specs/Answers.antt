@@ -1,7 +1,9 @@
 -- What the contracts of `console` cite.
-use Rattle.std.specs.Prelude.{◌≡◌, ℕ, List, Bool, true, false, take}
+use Rattle.std.specs.Prelude.{◌≡◌, ℕ, List, [], ◌∷◌, ◌++◌, Bool, true, false, take, codes}
 use Rattle.std.specs.declared.option.Option.{Option}
 use Rattle.std.specs.Io.KnownBytes.{Appends, Keeps}
+use Rattle.console.specs.declared.Failure.{Failure}
+use Rattle.console.specs.declared.Failure.TheVariants as failed
 
 -- What asking for bs to be written does to what a writer holds, and to whether all went well so far: all of bs is written where it went and goes well,
 -- a part from the front of bs where this write fails, and nothing where an earlier one failed.
@@ -9,3 +11,12 @@ abbrev pub Writes : Option (List ℕ) → Bool → Option (List ℕ) → Bool �
 Writes old true new true bs = Appends old new bs
 Writes old true new false bs = (n : ℕ) × Appends old new (take n bs)
 Writes old false new ok bs = Keeps old new × (ok ≡ false)
+
+-- what is said of a failure
+abbrev pub failure_text : Failure → List ℕ
+failure_text failed.Input = codes "cannot read the input"
+failure_text failed.Output = codes "cannot write the output"
+
+-- the line that says it of a program
+abbrev pub failure_line : List ℕ → Failure → List ℕ
+failure_line program failure = program ++ codes ": " ++ failure_text failure ++ (10 ∷ [])

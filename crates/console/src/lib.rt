@@ -4,14 +4,15 @@
 // A reader and a writer are whatever `main` hands over, so that the contracts can say which bytes are read and written.
 #![tactic(auto)]
 
-ghost use Rattle.std.specs.Prelude.{◌≡◌, ◌≢◌, ◌↔◌, ◌<◌, ◌≤◌, ℕ, length, take, max, min, true, ◌⊎◌, IsTrue, IsFalse, IfErr, IsOk, IsNone, Some, false, MatchResult};
+ghost use Rattle.std.specs.Prelude.{◌≡◌, ◌≢◌, ◌↔◌, ◌<◌, ◌≤◌, ℕ, List, length, take, max, min, true, ◌⊎◌, IsTrue, IsFalse, IfErr, IfSome, IsOk, IsNone, Some, false, MatchResult};
 ghost use Rattle.console.specs.declared.Failure.TheVariants as Failure;
 ghost use Rattle.std.specs.Io.KnownBytes.{Appends, Consumes, IsAtEnd, ReadConsumes};
 ghost use Rattle.std.specs.Io.{ReadsAtMost};
 ghost use Rattle.std.specs.IoError.{error_kind};
 ghost use Rattle.io.specs.Digits.{IsDigitCount, last_digits};
-ghost use Rattle.console.specs.Answers.{Writes};
+ghost use Rattle.console.specs.Answers.{Writes, failure_text, failure_line};
 
+use arrayvec::ArrayVec;
 use std::env::{Env, FillError};
 use std::fmt;
 use std::io::{Error, ErrorKind, Read, Write};
@@ -95,6 +96,8 @@ pub enum Failure {
 }
 
 impl fmt::Display for Failure {
+    ghost output = { λ f. Some (failure_text f) };
+
     fn fmt<W: fmt::Write>(&self, f: &mut fmt::Formatter<W>) -> fmt::Result {
         match self {
             Failure::Input => write!(f, "cannot read the input"),
@@ -102,6 +105,9 @@ impl fmt::Display for Failure {
         }
     }
 }
+
+// How many bytes of a text are laid out before it is written.
+const ROOM: usize = 1024;
 
 // Where a program writes, and whether all writes so far went well. After one that did not, nothing more is written.
 #[derive(Drop)]
@@ -139,6 +145,25 @@ impl<W: Write> Output<W> {
         }
     }
 
+    // Writes a text as one piece, unless an earlier write failed. `write!` and `writeln!` call it, in place of the method of `Write`, so its clauses say
+    // what is written where a write fails, too; of a text whose bytes no clause knows, that nothing is written after one that failed. The text is laid out
+    // first, in a room of 1,024 bytes. Of a text that needs more nothing is written, and that counts as a failed write. The longest line of the programs
+    // has some 550 bytes.
+    pub fn write_fmt<D: fmt::Display + Drop>(&mut self, text: D) -> Result<(), Error>
+        ensures written { IfSome (D.output text) (λ bs. Writes (W.contents self.old.writer) self.old.ok (W.contents self.new.writer) self.new.ok bs) }
+        ensures any { (bs : List ℕ) × Writes (W.contents self.old.writer) self.old.ok (W.contents self.new.writer) self.new.ok bs }
+        ensures told { IsOk result ↔ (self.new.ok ≡ true) }
+    {
+        let mut room: ArrayVec<u8, ROOM> = ArrayVec::new();
+        match room.write_fmt(text) {
+            Ok(()) => self.write_all(&room),
+            Err(e) => {
+                self.ok = false;
+                Err(e)
+            }
+        }
+    }
+
     // Writes bytes, unless an earlier write failed.
     pub fn text(&mut self, s: &[u8])
         ensures { Writes (W.contents self.old.writer) self.old.ok (W.contents self.new.writer) self.new.ok s.now }
@@ -149,7 +174,6 @@ impl<W: Write> Output<W> {
     }
 
     // The same of a number, in decimal digits.
-    // This and `hex` stay for their clauses: std's `write!` does not say what a failed write leaves of the digits.
     pub fn decimal(&mut self, n: u64)
         ensures { (k : ℕ) × IsDigitCount 10 1 n k
             × Writes (W.contents self.old.writer) self.old.ok (W.contents self.new.writer) self.new.ok (last_digits 10 k n) }
@@ -170,7 +194,7 @@ impl<W: Write> Output<W> {
     }
 }
 
-// Writes to an output, for `write!` and `writeln!`. After a failed write nothing more is written, and each call fails.
+// Writes to an output, for code that is generic over writers. After a failed write nothing more is written, and each call fails.
 impl<W: Write> Write for Output<W> {
     ghost contents = { λ out. W.contents out.writer };
 
@@ -208,6 +232,16 @@ pub fn complain<W: Write>(errors: &mut W, line: &[u8])
     ensures { (n : ℕ) × Appends (W.contents errors.old) (W.contents errors.new) (take n line.now) }
 {
     write_all(errors, line);
+}
+
+// Writes what failed to standard error, as one line behind the program's name.
+pub fn complain_of<W: Write>(errors: &mut W, program: &str, failure: Failure)
+    ensures { (n : ℕ) × Appends (W.contents errors.old) (W.contents errors.new) (take n (failure_line program.now failure)) }
+{
+    let mut line: ArrayVec<u8, ROOM> = ArrayVec::new();
+    if writeln!(line, "{program}: {failure}").is_ok() {
+        complain(errors, &line);
+    }
 }
 
 // Whether there is an argument with this number. Number 0 is the program's own name.

@@ -23,12 +23,17 @@ impl fmt::Display for Bytes<'_> {
 }
 
 // A case that is refused, by its number.
-fn show_refused(case: &str, w: Refusal, out: &mut impl Write) -> io::Result<()> {
+fn show_refused(case: &str, w: Refusal, out: &mut Output<impl Write>) -> io::Result<()> {
     writeln!(out, "{case} refused {}", w.number())
 }
 
 // What a builder builds: the usable blocks, where the array starts, and the entry count.
-fn show_built(case: &str, s: HeaderBuilder, b: u64, out: &mut impl Write) -> io::Result<()> {
+fn show_built(
+    case: &str,
+    s: HeaderBuilder,
+    b: u64,
+    out: &mut Output<impl Write>,
+) -> io::Result<()> {
     match s.build(b) {
         Err(w) => show_refused(case, w, out),
         Ok(h) => {
@@ -47,7 +52,7 @@ fn with_backup(lba: u64) -> HeaderBuilder {
     HeaderBuilder::new(Guid::nil()).with_backup_lba(Lba(lba))
 }
 
-fn show_smallest(out: &mut impl Write) -> io::Result<()> {
+fn show_smallest(out: &mut Output<impl Write>) -> io::Result<()> {
     show_built("P1", with_backup(67), 512, out)?;
     show_built("P1 backup", with_backup(67).with_primary(false), 512, out)?;
     show_built("P2", with_backup(66), 512, out)?;
@@ -59,7 +64,7 @@ fn show_smallest(out: &mut impl Write) -> io::Result<()> {
     show_built("P6", with_backup(32), 512, out)
 }
 
-fn show_set(out: &mut impl Write) -> io::Result<()> {
+fn show_set(out: &mut Output<impl Write>) -> io::Result<()> {
     let far = with_backup(67).with_last_usable(Lba(100));
     show_built("P7", far, 512, out)?;
     show_built("P7 backup", far.with_primary(false), 512, out)?;
@@ -85,21 +90,21 @@ fn blocks(first: u64, last: u64) -> Partition {
     }
 }
 
-fn show_length(first: u64, last: u64, out: &mut impl Write) -> io::Result<()> {
+fn show_length(first: u64, last: u64, out: &mut Output<impl Write>) -> io::Result<()> {
     match blocks(first, last).sectors_len() {
         Err(w) => show_refused("P11", w, out),
         Ok(n) => writeln!(out, "P11 blocks {n}"),
     }
 }
 
-fn show_backup(len: usize, out: &mut impl Write) -> io::Result<()> {
+fn show_backup(len: usize, out: &mut Output<impl Write>) -> io::Result<()> {
     match header::find_backup_lba(len, 512) {
         Err(w) => show_refused("P12", w, out),
         Ok(lba) => writeln!(out, "P12 backup at block {}", lba.0),
     }
 }
 
-fn show_guid(out: &mut impl Write) -> io::Result<()> {
+fn show_guid(out: &mut Output<impl Write>) -> io::Result<()> {
     let bytes = b"\x00\x01\x02\x03\x04\x05\x06\x07\x08\x09\x0A\x0B\x0C\x0D\x0E\x0F";
     match units::read_guid(bytes, BytePlace(0)) {
         Err(w) => show_refused("P13", w, out),
@@ -111,14 +116,14 @@ fn show_guid(out: &mut impl Write) -> io::Result<()> {
     }
 }
 
-fn show_record(out: &mut impl Write) -> io::Result<()> {
+fn show_record(out: &mut Output<impl Write>) -> io::Result<()> {
     match ProtectiveMbr::new().partition(0) {
         Err(w) => show_refused("P14", w, out),
         Ok(p) => writeln!(out, "P14{}", Bytes(&p.to_bytes())),
     }
 }
 
-fn run(out: &mut impl Write) -> io::Result<()> {
+fn run(out: &mut Output<impl Write>) -> io::Result<()> {
     show_smallest(out)?;
     show_set(out)?;
     show_length(34, 34, out)?;
@@ -134,6 +139,6 @@ fn main(rt: HostRuntime) {
     let mut out = Output::new(rt.stdout());
     let ended = run(&mut out);
     if let Some(failure) = out.failure(&ended) {
-        let _ = eprintln!(rt; "edges: {failure}");
+        console::complain_of(&mut rt.stderr(), "edges", failure);
     }
 }

@@ -16,7 +16,7 @@ const USAGE: &str =
 const LONGEST: usize = 65536;
 
 // A run's line: its first and last block, and how many blocks it has.
-fn print_run(start: u64, blocks: u64, out: &mut impl Write) -> io::Result<()>
+fn print_run(start: u64, blocks: u64, out: &mut Output<impl Write>) -> io::Result<()>
     requires { (0 < blocks) × (start + blocks < 2 ^ 64) }
 {
     let last = start + blocks - 1;
@@ -24,7 +24,12 @@ fn print_run(start: u64, blocks: u64, out: &mut impl Write) -> io::Result<()>
 }
 
 // The lines of the n runs in both rows.
-fn print_runs(starts: &[u64], lengths: &[u64], n: usize, out: &mut impl Write) -> io::Result<()>
+fn print_runs(
+    starts: &[u64],
+    lengths: &[u64],
+    n: usize,
+    out: &mut Output<impl Write>,
+) -> io::Result<()>
     requires n_in_bounds { (n ≤ length starts.now) × (n ≤ length lengths.now) }
     requires by_index { (k : ℕ) → k < n → (0 < get_or lengths.now k 0) × (get_or starts.now k 0 + get_or lengths.now k 0 < 2 ^ 64) }
 {
@@ -35,7 +40,7 @@ fn print_runs(starts: &[u64], lengths: &[u64], n: usize, out: &mut impl Write) -
 }
 
 // The card's runs, in rows of 129 places, which always do.
-fn list(img: &[u8], out: &mut impl Write) -> io::Result<()> {
+fn list(img: &[u8], out: &mut Output<impl Write>) -> io::Result<()> {
     let mut starts: [u64; 129] = [0; 129];
     let mut lengths: [u64; 129] = [0; 129];
     match ground::free_runs(img, 512, &mut starts, &mut lengths) {
@@ -49,23 +54,25 @@ fn list(img: &[u8], out: &mut impl Write) -> io::Result<()> {
 }
 
 // Reads the image to its end before anything is printed.
-fn run(rt: &HostRuntime, out: &mut Output<io::Stdout>) -> io::Result<()> {
-    if !console::no_arguments(rt, USAGE.as_bytes(), out, &mut rt.stderr()) {
-        return Ok(());
-    }
-    let mut image = Vec::new(rt.alloc());
-    rt.stdin().take(LONGEST as u64 + 1).read_to_end(&mut image)?;
-    if image.len() > LONGEST {
+fn run(input: &mut impl Read, out: &mut Output<impl Write>) -> io::Result<()> {
+    let mut space = [0; LONGEST + 1];
+    let n = console::read_input(input, &mut space)?;
+    if n > LONGEST {
         return writeln!(out, "too long");
     }
-    list(&image, out)
+    list(&space[..n], out)
 }
 
 // The exit status is always 0, as the usage line says.
 fn main(rt: HostRuntime) {
     let mut out = Output::new(rt.stdout());
-    let ended = run(&rt, &mut out);
+    let mut errors = rt.stderr();
+    let ended = if console::no_arguments(&rt, USAGE.as_bytes(), &mut out, &mut errors) {
+        run(&mut rt.stdin(), &mut out)
+    } else {
+        Ok(())
+    };
     if let Some(failure) = out.failure(&ended) {
-        let _ = eprintln!(rt; "free_ground: {failure}");
+        console::complain_of(&mut errors, "free_ground", failure);
     }
 }

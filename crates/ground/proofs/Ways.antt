@@ -4,6 +4,7 @@ use mathlib.Core.Bool.{true, false, ◌||◌}
 use mathlib.Core.List.{List, map}
 use Prim.Native.Nat.{ℕ, zero, suc, ◌+◌, ◌-◌, ◌≤◌}
 use native.Mathlib.Omega.{arith}
+use Rattle.std.specs.Prelude.{Result, Ok, Err}
 use borrow.Author.Tests.{ltb-false}
 use lib.Dec.{ltb}
 use lib.ListN.{length, take, drop}
@@ -13,6 +14,7 @@ use Rattle.units.specs.declared.Reason.{Reason}
 use Rattle.units.specs.declared.Refusal.TheVariants.{NoRoom}
 use Rattle.units.specs.Answer.{Answer, accepted, refused, plain, if_zero, judged}
 use Rattle.units.specs.Refusals.{why_at, reason_of}
+use Rattle.units.specs.Meanings.{card_means}
 use Rattle.units.proofs.Chains.{Named, named-is, named-when, found, past, number-of, none-when, judged-none, judged-some}
 use Rattle.units.proofs.Lists.{length-lent}
 use Rattle.tables.specs.Lens.{Tables, Front, copy_in, tables}
@@ -26,7 +28,7 @@ use Rattle.tables.proofs.Good.{Good, room-ok, check-good}
 use Rattle.checking.proofs.CheckWays.{named-check}
 use Rattle.ground.specs.Ground.{Run, runs}
 use Rattle.ground.specs.Search.{Checked, front_runs}
-use Rattle.ground.specs.Answers.{rows_check, runs_of, ground_check, settle_rows, RowsEnd, rows_outcome, image_check, ground_outcome}
+use Rattle.ground.specs.Answers.{run_count_of, rows_check, runs_of, ground_check, settle_rows, Rows, RowsEnd, rows_outcome, image_check, ground_outcome}
 
 -- ---- the front table as the code lends it
 
@@ -115,6 +117,26 @@ module _ (rs : List Run) (ss ls : List ℕ) {m : ℕ} {f : Why} (n : m ≡ lengt
       let w : Why = rows_check (length ss) (length ls) (length rs) in
       let y : (rows_check (length ss) (length ls) (length rs)).number ≡ 0 = sym (number-of here) ∙ z in
       subst (λ (a : Answer ℕ). RowsEnd (settle_rows w (judged w (length rs)) rs ss ls) a o p) (judged-none (length rs) w y ∙ ap accepted (sym n)) (settle-filled w (judged w (length rs)) rs ss ls y a b)
+
+-- ---- the answer by its name
+
+pub count-fine : (w : Why) (n : ℕ) → w.number ≡ 0 → Ok n ≡ run_count_of w n
+unfolding run_count_of
+count-fine w n z = rw z
+
+pub count-refused : (w : Why) (n : ℕ) {r : Reason} → (w.number ≡ 0 → ⊥) → r ≡ reason_of w → Err r ≡ run_count_of w n
+unfolding run_count_of
+count-refused w n {r} d e = ap (λ (x : Reason). Err x) e ∙ by w.number d
+  where
+    by : (k : ℕ) → (k ≡ 0 → ⊥) → ◌≡◌ {A = Result ℕ Reason} (Err (reason_of w)) (if_zero k (Ok n) (Err (reason_of w)))
+    by zero d = absurd (d refl)
+    by (suc k) d = refl
+
+-- where something refuses, a call that answers so ends as one that is refused for that reason
+pub rows-answered : (w : Why) (n : ℕ) {r : Result ℕ Reason} {g : Rows (Answer ℕ)} {o p : List ℕ} → (w.number ≡ 0 → ⊥) → r ≡ run_count_of w n
+    → RowsEnd g (refused (why_at (reason_of w))) o p → RowsEnd g (card_means r) o p
+rows-answered w n {r} {g} {o} {p} d q k =
+    record { answer = ap card_means (q ∙ sym (count-refused w n d refl)) ∙ k.answer; starts = k.starts; lengths = k.lengths }
 
 -- ---- the call
 

@@ -1,13 +1,21 @@
 -- What `free_runs` answers, and what the two rows then hold. From document 02, 1/13: the card check's numbers, then 15 exactly if either row is shorter than the count; the runs stand
 -- in the first places, and the places after the count stay. A refusal of the check says its place (5/13); 15 has none. Assumes nothing.
-use Rattle.std.specs.Prelude.{◌≡◌, ◌||◌, List, map, ℕ, ltb, length}
+use Rattle.std.specs.Prelude.{◌≡◌, ◌||◌, Result, Ok, Err, List, map, ℕ, ltb, length}
 use Rattle.std.proofs.Common.{sym, ◌∙◌}
 use Rattle.std.proofs.lemmas.List.Edits.{sets}
+use Rattle.units.specs.declared.Reason.{Reason}
 use Rattle.units.specs.declared.why.Why.{Why}
 use Rattle.units.specs.Answer.{Answer, plain, when, if_zero, or_else, judged}
+use Rattle.units.specs.Refusals.{reason_of}
 use Rattle.tables.specs.Lens.{Tables, tables}
 use Rattle.tables.specs.Check.{check}
 use Rattle.ground.specs.Ground.{Run, runs}
+
+-- ---- the answer
+
+-- the answer that a refusal as a value stands for, or else a count
+unfoldable pub run_count_of : Why → ℕ → Result ℕ Reason
+run_count_of w n = if_zero w.number (Ok n) (Err (reason_of w))
 
 -- ---- the tests
 

@@ -6,7 +6,7 @@ ghost use Rattle.units.specs.Bytes.{part};
 ghost use Rattle.units.specs.Meanings.{card_means};
 ghost use Rattle.ground.specs.Ground.{Run};
 ghost use Rattle.ground.specs.Search.{Checked, At, Nearest, Next, nearer_of, front_runs};
-ghost use Rattle.ground.specs.Answers.{rows_check, rows_outcome, RowsEnd};
+ghost use Rattle.ground.specs.Answers.{rows_check, rows_outcome, RowsEnd, run_count_of};
 
 use units::why::Why;
 use units::{BytePlace, Lba, Place, Reason, Slot, why};
@@ -154,8 +154,19 @@ pub fn runs_into(
     let n = count_runs(copy, len, b);
     let found = rows_check(n, starts.len(), lengths.len());
     if found.number != 0 {
-        return Err(found.reason());
+        return answer(found, 0);
     }
     fill(copy, len, b, n, starts, lengths);
     Ok(n)
+}
+
+// The answer by its name: a refusal, or a count where nothing refuses.
+pub fn answer(found: Why, count: u32) -> Result<u32, Reason>
+    ensures { result ≡ run_count_of found count }
+{
+    let n = found.number;
+    if n == 0 {
+        return Ok(count);
+    }
+    Err(found.reason())
 }

@@ -16,7 +16,7 @@ pub fn free_runs(img: &[u8], b: u64, starts: &mut [u64], lengths: &mut [u64]) ->
 {
     let found = checking::inner::check_with(img, b);
     if found.number != 0 {
-        return Err(found.reason());
+        return inner::answer(found, 0);
     }
     let size = b as usize;
     inner::runs_into(

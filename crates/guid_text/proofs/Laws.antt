@@ -76,8 +76,6 @@ all_right text i h = let z : 36 - i ≡ 0 = omega arith in rw z
 
 pub ruleset places = (right-past)
 
-pub ruleset passing = (goes_on, stops-here, all_right)
-
 -- ---- the whole text
 
 length-group : (n x : ℕ) → length (group n x) ≡ n + 1

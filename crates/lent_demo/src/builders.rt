@@ -1,6 +1,7 @@
 // Builds headers of document 01's cases at the edges with a builder that is lent to each of its setters, and prints what is built.
 use crate::lent;
 use builder::HeaderBuilder;
+use console::Output;
 use header::Header;
 use std::io::Write;
 use std::{fmt, io};
@@ -27,7 +28,12 @@ impl fmt::Display for Built {
     }
 }
 
-fn show_built(case: &str, s: HeaderBuilder, b: u64, out: &mut impl Write) -> io::Result<()> {
+fn show_built(
+    case: &str,
+    s: HeaderBuilder,
+    b: u64,
+    out: &mut Output<impl Write>,
+) -> io::Result<()> {
     match s.build(b) {
         Err(w) => writeln!(out, "{case} refused {}", w.number()),
         Ok(h) => writeln!(out, "{case} {}", Built(h)),
@@ -48,7 +54,7 @@ fn with_backup(lba: u64) -> HeaderBuilder {
     )
 }
 
-pub fn show(out: &mut impl Write) -> io::Result<()> {
+pub fn show(out: &mut Output<impl Write>) -> io::Result<()> {
     let p1 = with_backup(67);
     show_built("P1", p1, 512, out)?;
     show_built("P1 backup", lent::primary(p1, false), 512, out)?;

@@ -52,14 +52,14 @@ fn read_four(img: &[u8], h: Header, b: u64) -> Reading
     reading_of(answer, row)
 }
 
-fn show_answer(answer: Result<u32, Refusal>, out: &mut impl Write) -> io::Result<()> {
+fn show_answer(answer: Result<u32, Refusal>, out: &mut Output<impl Write>) -> io::Result<()> {
     match answer {
         Err(w) => writeln!(out, "refused {}", w.number()),
         Ok(n) => writeln!(out, "present {n}"),
     }
 }
 
-fn show(case: &str, r: Reading, out: &mut impl Write) -> io::Result<()> {
+fn show(case: &str, r: Reading, out: &mut Output<impl Write>) -> io::Result<()> {
     write!(out, "{case}: ")?;
     show_answer(r.answer, out)?;
     for e in r.row {
@@ -114,7 +114,12 @@ fn header_for(img: &[u8; 2048]) -> Header {
 }
 
 // Stores an entry in a slot of the array.
-fn put(img: &mut [u8; 2048], slot: u64, p: Partition, out: &mut impl Write) -> io::Result<()>
+fn put(
+    img: &mut [u8; 2048],
+    slot: u64,
+    p: Partition,
+    out: &mut Output<impl Write>,
+) -> io::Result<()>
     requires { 1 ≤ slot }
 {
     match p.write_to_device(img, slot - 1, Lba(2), 512, 128) {
@@ -124,11 +129,17 @@ fn put(img: &mut [u8; 2048], slot: u64, p: Partition, out: &mut impl Write) -> i
 }
 
 // Lends a row for one reading, and shows it.
-fn show_reading(case: &str, img: &[u8], h: Header, b: u64, out: &mut impl Write) -> io::Result<()> {
+fn show_reading(
+    case: &str,
+    img: &[u8],
+    h: Header,
+    b: u64,
+    out: &mut Output<impl Write>,
+) -> io::Result<()> {
     show(case, read_four(img, h, b), out)
 }
 
-fn run(out: &mut impl Write) -> io::Result<()> {
+fn run(out: &mut Output<impl Write>) -> io::Result<()> {
     builders::show(out)?;
     let mut img = [0; 2048];
     put(&mut img, 2, blocks(1, 34, 40), out)?;
@@ -149,6 +160,6 @@ fn main(rt: HostRuntime) {
     let mut out = Output::new(rt.stdout());
     let ended = run(&mut out);
     if let Some(failure) = out.failure(&ended) {
-        let _ = eprintln!(rt; "lent_demo: {failure}");
+        console::complain_of(&mut rt.stderr(), "lent_demo", failure);
     }
 }

@@ -9,18 +9,21 @@ use borrow.Author.Tests.{lt-ltb, le-ltb}
 use lib.Dec.{ltb}
 use lib.ListN.{length, take, drop, get_or, drop_of_length-le}
 use lib.Seq.{drop-cons}
+use Rattle.std.specs.Prelude.{Option, Result}
 use Rattle.units.proofs.Chains.{when-none, judged-none, judged-zero, number-of}
+use Rattle.units.specs.declared.Reason.{Reason}
 use Rattle.units.specs.declared.why.Why.{Why}
 use Rattle.units.specs.Answer.{refused, if_zero, judged, plain, Answer, accepted, and_then, beside}
 use Rattle.units.specs.Bytes.{all_zero}
 use Rattle.partition.specs.Format.{entry_at}
 use Rattle.partition.specs.Array.{entry_place, present_from, first_slot}
+use Rattle.rows.specs.declared.Entry.{Entry}
 use Rattle.tables.specs.Lens.{Tables, tables}
 use Rattle.tables.specs.Check.{check}
 use Rattle.listing.specs.Listing.{Listed, present_slots, listed, count_answer, next_answer, slot_read, nth_answer, entries_answer}
 use Rattle.tables.proofs.Orders.{split}
 use Rattle.listing.proofs.Scans.{entry-place, after_first, after_last}
-use Rattle.listing.specs.Meanings.{first_used, nth_reading}
+use Rattle.listing.specs.Meanings.{first_used, nth_reading, used_means, is_found, found-told}
 use Rattle.listing.proofs.Ways.{slot_is, slot-range, slot-good}
 
 -- ---- answers and the lists in them
@@ -128,6 +131,11 @@ module _ (B : ℕ) (xs : List ℕ) where
       ∙ split m k
       (λ h. ap f (drop_of_length-le l {i = k} (omega arith)) ∙ sym (le-ltb k m h))
       (λ h. ap f (drop-cons l k 0 (omega arith)) ∙ sym (lt-ltb k m h))
+
+  -- the same of what the code answers: a call that is asked for used slot k answers one exactly for k below the count
+  pub count-is-all-told : (k m : ℕ) (r : Result (Option Entry) Reason) → used_means r ≡ nth_answer B xs k → count_answer B xs ≡ accepted m → is_found r ≡ ltb k m
+  count-is-all-told k m r e c =
+      sym (found-told r) ∙ ap (λ (a : Answer (List Listed)). (nth_reading a).value.found) e ∙ count-is-all k m c
 
   -- ---- by order and by slot: each entry is what its slot holds, and is present
 

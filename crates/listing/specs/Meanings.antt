@@ -49,6 +49,19 @@ first_used (e ∷ l) = record { found = true; slot = e.slot; partition = e.parti
 abbrev pub nth_reading : Answer (List Listed) → Beside Used
 nth_reading r = beside (first_used []) (and_then r (λ l. accepted (first_used l)))
 
+-- whether a call found the used slot that was asked for
+abbrev pub is_found : Result (Option Entry) Reason → Bool
+is_found (Ok (Some e)) = true
+is_found (Ok None) = false
+is_found (Err r) = false
+
+-- the C structs tell it so
+pub found-told : (r : Result (Option Entry) Reason) → (nth_reading (used_means r)).value.found ≡ is_found r
+unfolding beside first_used
+found-told (Ok (Some e)) = refl
+found-told (Ok None) = refl
+found-told (Err r) = refl
+
 -- ---- each answer comes back from its meaning
 
 used_from : Answer (List Listed) → Result (Option Entry) Reason

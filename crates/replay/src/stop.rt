@@ -1,7 +1,6 @@
 // Why a replay stops before the tape's end.
 use replay_calls::kinds::UnknownKind;
 use replay_calls::tape::NoMore;
-use std::alloc::{AllocError, AllocFailed};
 use std::error::Error;
 use std::fmt;
 
@@ -12,7 +11,6 @@ pub enum Stop {
     LongImage,
     OutsideImage,
     TooManySteps,
-    OutOfMemory,
 }
 
 impl fmt::Display for Stop {
@@ -23,7 +21,6 @@ impl fmt::Display for Stop {
             Stop::LongImage => write!(f, "an image of more than 65536 bytes"),
             Stop::OutsideImage => write!(f, "a store outside the image"),
             Stop::TooManySteps => write!(f, "a tape of more than 1000000 steps"),
-            Stop::OutOfMemory => write!(f, "no memory"),
         }
     }
 }
@@ -39,17 +36,5 @@ impl From<NoMore> for Stop {
 impl From<UnknownKind> for Stop {
     fn from(_e: UnknownKind) -> Stop {
         Stop::UnknownKind
-    }
-}
-
-impl From<AllocError> for Stop {
-    fn from(_e: AllocError) -> Stop {
-        Stop::OutOfMemory
-    }
-}
-
-impl<T: Drop> From<AllocFailed<T>> for Stop {
-    fn from(_e: AllocFailed<T>) -> Stop {
-        Stop::OutOfMemory
     }
 }

@@ -73,16 +73,13 @@ fn used(img: &[u8]) -> u32 {
 }
 
 // Writes the card if it holds its three slots.
-fn run(rt: &HostRuntime, out: &mut Output<io::Stdout>) -> io::Result<()> {
-    if !console::no_arguments(rt, USAGE.as_bytes(), out, &mut rt.stderr()) {
-        return Ok(());
-    }
+fn run(out: &mut Output<impl Write>, errors: &mut impl Write) -> io::Result<()> {
     let mut img = [0; 65536];
     fill(&mut img);
     if used(&img) == 3 {
         out.write_all(&img)
     } else {
-        let _ = eprintln!(rt; "sample: a call was refused");
+        console::complain(errors, b"sample: a call was refused\n");
         Ok(())
     }
 }
@@ -90,8 +87,13 @@ fn run(rt: &HostRuntime, out: &mut Output<io::Stdout>) -> io::Result<()> {
 // The exit status is always 0, as the usage line says.
 fn main(rt: HostRuntime) {
     let mut out = Output::new(rt.stdout());
-    let ended = run(&rt, &mut out);
+    let mut errors = rt.stderr();
+    let ended = if console::no_arguments(&rt, USAGE.as_bytes(), &mut out, &mut errors) {
+        run(&mut out, &mut errors)
+    } else {
+        Ok(())
+    };
     if let Some(failure) = out.failure(&ended) {
-        let _ = eprintln!(rt; "sample: {failure}");
+        console::complain_of(&mut errors, "sample", failure);
     }
 }

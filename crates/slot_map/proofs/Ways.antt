@@ -7,10 +7,11 @@ use native.Mathlib.Omega.{arith}
 use borrow.Author.Tests.{lt-ltb, le-ltb}
 use lib.ListN.{length, take, drop, set, get_or, replicate}
 use lib.Seq.{take_all}
+use Rattle.std.specs.Prelude.{Result, Ok, Err}
 use Rattle.units.specs.declared.why.Why.{Why}
 use Rattle.units.specs.declared.Slot.{Slot}
 use Rattle.units.specs.declared.Reason.{Reason}
-use Rattle.units.specs.Answer.{Answer, accepted, refused, refuse, Outcome, Ends}
+use Rattle.units.specs.Answer.{Answer, accepted, refused, refuse, Outcome, Ends, if_zero}
 use Rattle.units.specs.Bytes.{part, all_zero}
 use Rattle.units.specs.Refusals.{why_at, reason_of}
 use Rattle.units.proofs.Chains.{number-of, judged-none, judged-some}
@@ -27,8 +28,9 @@ use Rattle.card.specs.Calls.{put_at, put_bytes, put_outcome, clear_at, clear_out
 use Rattle.history.specs.History.{taken}
 use Rattle.history.proofs.State.{taken-zero}
 use Rattle.history.proofs.Changes.{put-ok, clear-slot}
+use Rattle.slot_map.specs.declared.SlotMap.{SlotMap}
 use Rattle.slot_map.specs.Bits.{bits_of, first_false}
-use Rattle.slot_map.specs.Map.{flags_from, flags_in, free_answer, made_answer}
+use Rattle.slot_map.specs.Map.{flags_from, flags_in, free_answer, made_means, made_of, made_answer}
 use Rattle.slot_map.proofs.BitLaws.{length-bits, first-in, first_past, flags-more, map-none}
 use Rattle.slot_map.proofs.Carry.{length-flags, flag_at}
 
@@ -69,6 +71,23 @@ module _ (B : ℕ) (xs : List ℕ) (h : (check B (length xs) (tables B xs)).numb
 
   pub flags-lent : flags_from (copy_in B Front (lent B xs)).array 0 128 ≡ flags_in B xs
   flags-lent = ap (λ (t : Tables). flags_from t.front.array 0 128) (lent-tables B (length xs) xs room_in refl)
+
+-- the answer by its name
+pub made-fine : (w : Why) (m : SlotMap) → w.number ≡ 0 → Ok m ≡ made_of w m
+unfolding made_of
+made-fine w m z = rw z
+
+pub made-refused : (w : Why) (m : SlotMap) {r : Reason} → (w.number ≡ 0 → ⊥) → r ≡ reason_of w → Err r ≡ made_of w m
+unfolding made_of
+made-refused w m {r} d e = ap (λ (x : Reason). Err x) e ∙ by w.number d
+  where
+    by : (k : ℕ) → (k ≡ 0 → ⊥) → ◌≡◌ {A = Result SlotMap Reason} (Err (reason_of w)) (if_zero k (Ok m) (Err (reason_of w)))
+    by zero d = absurd (d refl)
+    by (suc k) d = refl
+
+-- where something refuses, it means a refusal for that reason
+pub made-means : (w : Why) (m : SlotMap) {r : Result SlotMap Reason} → (w.number ≡ 0 → ⊥) → r ≡ made_of w m → made_means r ≡ refused (why_at (reason_of w))
+made-means w m d q = ap made_means (q ∙ sym (made-refused w m d refl))
 
 module _ (B : ℕ) (xs : List ℕ) {f : Why} (e : f ≡ check B (length xs) (tables B xs)) where
   pub answer-refused : {r : Reason} → (f.number ≡ 0 → ⊥) → r ≡ reason_of f → refused (why_at r) ≡ made_answer B xs

@@ -1,10 +1,11 @@
 -- The slot map of a card, what is asked of it, and how it is carried through calls. From document 02, 11/13: made from a checked card, with the check's refusals and their places (5/13); carried through put
 -- and clear by value; 33 where a free slot is asked for and all 128 are used. Assumes nothing.
 use Rattle.std.specs.Prelude.{Result, Ok, Err, Bool, true, false, not, List, [], ◌∷◌, ℕ, zero, suc, ◌+◌, ◌-◌, ltb, length, set}
+use Rattle.units.specs.declared.why.Why.{Why}
 use Rattle.units.specs.declared.Reason.{Reason}
 use Rattle.units.specs.declared.Slot.{Slot}
-use Rattle.units.specs.Answer.{Answer, accepted, refused, refuse, pick, judged}
-use Rattle.units.specs.Refusals.{why_at}
+use Rattle.units.specs.Answer.{Answer, accepted, refused, refuse, pick, if_zero, judged}
+use Rattle.units.specs.Refusals.{why_at, reason_of}
 use Rattle.partition.specs.Array.{present}
 use Rattle.tables.specs.Checks.{lowest}
 use Rattle.tables.specs.Lens.{tables}
@@ -30,6 +31,10 @@ made_answer B xs = judged (check B (length xs) (tables B xs)) (flags_in B xs)
 abbrev pub made_means : Result SlotMap Reason → Answer (List Bool)
 made_means (Ok m) = accepted (map_of m)
 made_means (Err r) = refused (why_at r)
+
+-- the answer that a refusal as a value stands for, or else a map
+unfoldable pub made_of : Why → SlotMap → Result SlotMap Reason
+made_of w m = if_zero w.number (Ok m) (Err (reason_of w))
 
 -- ---- what is asked of it
 

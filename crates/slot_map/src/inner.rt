@@ -2,9 +2,11 @@
 ghost use Rattle.std.specs.Prelude.{◌≡◌, true, false, ◌+◌, ◌≤◌, ◌<◌, length, set};
 ghost use Rattle.tables.specs.Lens.{Front, copy_in};
 ghost use Rattle.slot_map.specs.Bits.{bits_of, map_of, first_false, count_true};
-ghost use Rattle.slot_map.specs.Map.{flags_from};
+ghost use Rattle.slot_map.specs.Map.{flags_from, made_of};
 
 use crate::SlotMap;
+use units::Reason;
+use units::why::Why;
 
 // A word with bit k set, and with bit k clear.
 fn word_set(x: u64, k: u64) -> u64
@@ -74,4 +76,15 @@ pub fn map_of(copy: &[u8], b: u64) -> SlotMap
         m = with_bit(m, k, partition::inner::is_present(copy, at.0));
     }
     m
+}
+
+// The answer by its name: a refusal, or the map where nothing refuses.
+pub fn made(found: Why, map: SlotMap) -> Result<SlotMap, Reason>
+    ensures { result ≡ made_of found map }
+{
+    let n = found.number;
+    if n == 0 {
+        return Ok(map);
+    }
+    Err(found.reason())
 }

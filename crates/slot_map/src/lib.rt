@@ -53,7 +53,7 @@ pub fn slot_map(img: &[u8], b: u64) -> Result<SlotMap, Reason>
 {
     let found = checking::inner::check_with(img, b);
     if found.number != 0 {
-        return Err(found.reason());
+        return inner::made(found, SlotMap { low: 0, high: 0 });
     }
     let size = b as usize;
     Ok(inner::map_of(&img[size..size + (size + 16384)], b))

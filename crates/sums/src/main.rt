@@ -46,12 +46,12 @@ const LONG_TEXTS: [&str; 8] = [
 ];
 
 // A line for bytes that are described by `what`.
-fn show(bytes: &[u8], what: &str, out: &mut impl Write) -> io::Result<()> {
+fn show(bytes: &[u8], what: &str, out: &mut Output<impl Write>) -> io::Result<()> {
     writeln!(out, "{:08x} {what}", crc32::crc32(bytes))
 }
 
 // A line for each text, as it is.
-fn show_texts(texts: &[&str], out: &mut impl Write) -> io::Result<()> {
+fn show_texts(texts: &[&str], out: &mut Output<impl Write>) -> io::Result<()> {
     for text in texts {
         writeln!(out, "{:08x} \"{text}\"", crc32::crc32(text.as_bytes()))?;
     }
@@ -72,7 +72,7 @@ impl fmt::Display for Bytes<'_> {
 }
 
 // A line for a few bytes that are printed in hexadecimal.
-fn show_bytes(bytes: &[u8], out: &mut impl Write) -> io::Result<()> {
+fn show_bytes(bytes: &[u8], out: &mut Output<impl Write>) -> io::Result<()> {
     writeln!(out, "{:08x} bytes{}", crc32::crc32(bytes), Bytes(bytes))
 }
 
@@ -87,7 +87,7 @@ fn fill_rising(bytes: &mut [u8])
 }
 
 // A line for n times the same byte.
-fn show_run(byte: u8, n: usize, out: &mut impl Write) -> io::Result<()>
+fn show_run(byte: u8, n: usize, out: &mut Output<impl Write>) -> io::Result<()>
     requires { n ≤ 65536 }
 {
     let space = [byte; 65536];
@@ -96,7 +96,7 @@ fn show_run(byte: u8, n: usize, out: &mut impl Write) -> io::Result<()>
 }
 
 // A line for the first n bytes of those that count up from 0.
-fn show_rising(n: usize, what: &str, out: &mut impl Write) -> io::Result<()>
+fn show_rising(n: usize, what: &str, out: &mut Output<impl Write>) -> io::Result<()>
     requires { n ≤ 65536 }
 {
     let mut space = [0; 65536];
@@ -144,12 +144,17 @@ fn sum_cut(bytes: &[u8], cuts: &[usize]) -> u32
 }
 
 // A line for bytes that are summed piece by piece.
-fn show_cut(bytes: &[u8], cuts: &[usize], what: &str, out: &mut impl Write) -> io::Result<()> {
+fn show_cut(
+    bytes: &[u8],
+    cuts: &[usize],
+    what: &str,
+    out: &mut Output<impl Write>,
+) -> io::Result<()> {
     writeln!(out, "{:08x} the same array, {what}", sum_cut(bytes, cuts))
 }
 
 // One entry array, whole, block by block for both block sizes, and cut unevenly, with pieces of no bytes.
-fn show_array(out: &mut impl Write) -> io::Result<()> {
+fn show_array(out: &mut Output<impl Write>) -> io::Result<()> {
     let array = entry_array();
     show(&array, "an entry array, 128 slots used", out)?;
     show_cut(&array, &[512; 32], "block by block of 512 bytes", out)?;
@@ -181,7 +186,7 @@ fn sum_input<R: Read>(input: &mut R) -> Result<(u32, u64), Error>
 }
 
 // Bytes that are no text: the least and the largest byte, and the vectors of AUTOSAR.
-fn show_few_bytes(out: &mut impl Write) -> io::Result<()> {
+fn show_few_bytes(out: &mut Output<impl Write>) -> io::Result<()> {
     show_bytes(b"\x00", out)?;
     show_bytes(b"\xff", out)?;
     show_bytes(b"\xf2\x01\x83", out)?;
@@ -194,7 +199,7 @@ fn show_few_bytes(out: &mut impl Write) -> io::Result<()> {
 }
 
 // The three chunks of a PNG file of one red pixel: a chunk's sum covers its type and its data.
-fn show_png_chunks(out: &mut impl Write) -> io::Result<()> {
+fn show_png_chunks(out: &mut Output<impl Write>) -> io::Result<()> {
     show(b"IEND", "PNG chunk IEND", out)?;
     show(
         b"IDAT\x08\xd7\x63\xf8\xcf\xc0\x00\x00\x03\x01\x01\x00",
@@ -210,7 +215,7 @@ fn show_png_chunks(out: &mut impl Write) -> io::Result<()> {
 
 // Runs and sequences of up to 65,536 bytes. 512 bytes are a block of most
 // disks, and 16,384 bytes of zero are the array of 128 unused entries of a partition table.
-fn show_sequences(out: &mut impl Write) -> io::Result<()> {
+fn show_sequences(out: &mut Output<impl Write>) -> io::Result<()> {
     show_run(0, 32, out)?;
     show_run(255, 32, out)?;
     show_rising(32, "32 bytes 00 to 1f", out)?;
@@ -228,7 +233,7 @@ fn show_sequences(out: &mut impl Write) -> io::Result<()> {
 }
 
 // All vectors.
-fn show_vectors(out: &mut impl Write) -> io::Result<()> {
+fn show_vectors(out: &mut Output<impl Write>) -> io::Result<()> {
     show(b"", "nothing", out)?;
     show_texts(&SHORT_TEXTS, out)?;
     show_texts(&LONG_TEXTS, out)?;
@@ -239,20 +244,22 @@ fn show_vectors(out: &mut impl Write) -> io::Result<()> {
 }
 
 // The vectors, and then the input, unless the vectors could not be written.
-fn run(rt: &HostRuntime, out: &mut Output<io::Stdout>) -> io::Result<()> {
-    if !console::no_arguments(rt, USAGE.as_bytes(), out, &mut rt.stderr()) {
-        return Ok(());
-    }
+fn run(input: &mut impl Read, out: &mut Output<impl Write>) -> io::Result<()> {
     show_vectors(out)?;
-    let (sum, length) = sum_input(&mut rt.stdin())?;
+    let (sum, length) = sum_input(input)?;
     writeln!(out, "{sum:08x} {length} bytes of standard input")
 }
 
 // The exit status is always 0, as the usage line says.
 fn main(rt: HostRuntime) {
     let mut out = Output::new(rt.stdout());
-    let ended = run(&rt, &mut out);
+    let mut errors = rt.stderr();
+    let ended = if console::no_arguments(&rt, USAGE.as_bytes(), &mut out, &mut errors) {
+        run(&mut rt.stdin(), &mut out)
+    } else {
+        Ok(())
+    };
     if let Some(failure) = out.failure(&ended) {
-        let _ = eprintln!(rt; "sums: {failure}");
+        console::complain_of(&mut errors, "sums", failure);
     }
 }

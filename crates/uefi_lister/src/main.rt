@@ -41,7 +41,7 @@ impl fmt::Display for Name {
 }
 
 // How many blocks a partition has, or `-` where its last block comes before its first one or 64 bits cannot count them.
-fn print_blocks(p: Partition, out: &mut impl Write) -> io::Result<()> {
+fn print_blocks(p: Partition, out: &mut Output<impl Write>) -> io::Result<()> {
     match p.sectors_len() {
         Ok(n) => write!(out, "{n}"),
         Err(_) => write!(out, "-"),
@@ -49,7 +49,7 @@ fn print_blocks(p: Partition, out: &mut impl Write) -> io::Result<()> {
 }
 
 // A slot's line: the slot, its first and last block, how many blocks it has, and its name.
-fn print_line(slot: Slot, p: Partition, out: &mut impl Write) -> io::Result<()> {
+fn print_line(slot: Slot, p: Partition, out: &mut Output<impl Write>) -> io::Result<()> {
     let (slot, first, last) = (slot.0, p.first_lba.0, p.last_lba.0);
     write!(out, "{slot} {first} {last} ")?;
     print_blocks(p, out)?;
@@ -57,7 +57,7 @@ fn print_line(slot: Slot, p: Partition, out: &mut impl Write) -> io::Result<()> 
 }
 
 // The lines of the entries that a plan lists, ascending.
-fn print_entries(img: &[u8], p: Plan, out: &mut impl Write) -> io::Result<()>
+fn print_entries(img: &[u8], p: Plan, out: &mut Output<impl Write>) -> io::Result<()>
     requires { Made img.now p }
 {
     let mut at = Slot(0);
@@ -90,7 +90,7 @@ fn edition(first: bool, second: bool) -> &'static str {
     }
 }
 
-fn list(img: &[u8], out: &mut impl Write) -> io::Result<()> {
+fn list(img: &[u8], out: &mut Output<impl Write>) -> io::Result<()> {
     let first = first_accepts(img);
     let p = uefi::inner::plan_primary(img, 512);
     match p.answer() {
@@ -108,23 +108,25 @@ fn list(img: &[u8], out: &mut impl Write) -> io::Result<()> {
 }
 
 // Reads the image to its end before anything is printed.
-fn run(rt: &HostRuntime, out: &mut Output<io::Stdout>) -> io::Result<()> {
-    if !console::no_arguments(rt, USAGE.as_bytes(), out, &mut rt.stderr()) {
-        return Ok(());
-    }
-    let mut image = Vec::new(rt.alloc());
-    rt.stdin().take(LONGEST as u64 + 1).read_to_end(&mut image)?;
-    if image.len() > LONGEST {
+fn run(input: &mut impl Read, out: &mut Output<impl Write>) -> io::Result<()> {
+    let mut space = [0; LONGEST + 1];
+    let n = console::read_input(input, &mut space)?;
+    if n > LONGEST {
         return writeln!(out, "too long");
     }
-    list(&image, out)
+    list(&space[..n], out)
 }
 
 // The exit status is always 0, as the usage line says.
 fn main(rt: HostRuntime) {
     let mut out = Output::new(rt.stdout());
-    let ended = run(&rt, &mut out);
+    let mut errors = rt.stderr();
+    let ended = if console::no_arguments(&rt, USAGE.as_bytes(), &mut out, &mut errors) {
+        run(&mut rt.stdin(), &mut out)
+    } else {
+        Ok(())
+    };
     if let Some(failure) = out.failure(&ended) {
-        let _ = eprintln!(rt; "uefi_lister: {failure}");
+        console::complain_of(&mut errors, "uefi_lister", failure);
     }
 }

@@ -2,24 +2,25 @@
 use mathlib.Core.Path.{◌≡◌, refl, sym, ap, ◌∙◌}
 use mathlib.Core.Logic.{◌⊎◌, inl, inr, ⊎_elim}
 use mathlib.Core.Bool.{Bool, true, false, not, ◌&&◌, ◌||◌}
-use mathlib.Core.List.{List, [], ◌∷◌, ◌++◌}
+use mathlib.Core.List.{List, [], ◌∷◌, ◌++◌, append-nil, append_assoc}
 use Prim.Native.Nat.{ℕ, zero, suc, ◌+◌, ◌*◌, ◌-◌, ◌/◌, ◌%◌, ◌^◌, ◌≤◌, ◌<◌}
 use native.Mathlib.Nat.{eq-zero-or-pos, lt_of_not-le, pow-suc, div-lt_iff_lt-mul, le-div_iff_mul-le, mul-le-mul}
 use native.Mathlib.Decide.{dec_le}
 use native.Mathlib.Omega.{arith}
 use lib.Bits.{bit_or, bit_xor, or_add_and, and_le_l, and_le_r, xor_add_and, xor_self}
 use lib.Dec.{eqb, leb}
-use lib.ListN.{length, take, drop, get_or, replicate}
-use lib.Seq.{drop-drop, sets, take_at, drop_at, get_or-drop}
+use lib.ListN.{length, take, drop, get_or, set, replicate, drop_of_length-le}
+use lib.Seq.{drop-cons, drop-drop, sets, take_all, take_at, drop_at, get_or-drop}
 use borrow.Author.Tests.{lt-ltb, le-ltb, le-leb, lt-leb, eq-eqb, ne_eqb, leb-true, eqb-true, not-false}
 use Rattle.std.specs.List.{fold, zip}
+use Rattle.std.proofs.lemmas.List.{take_more_set}
 use Rattle.units.specs.declared.BytePlace.{BytePlace}
 use Rattle.units.specs.declared.why.Why.{Why}
 use Rattle.units.specs.Answer.{Answer, accepted, refused, refuse, plain, pick}
-use Rattle.units.specs.Bytes.{part, le, num, bytes, same, all_zero}
+use Rattle.units.specs.Bytes.{part, le, num, bytes, total, laid, same, all_zero}
 use Rattle.units.specs.Places.{good_size, inside, place_of}
 use Rattle.units.specs.Held.{Small}
-use Rattle.units.proofs.Lists.{length_part, part-part, part_out, part_same, and_then}
+use Rattle.units.proofs.Lists.{length_part, part-part, part_out, part_same, sets_then, and_then}
 
 -- ---- tests
 
@@ -125,6 +126,19 @@ pub field_then : (s : List ℕ) (at n x : ℕ) {s₁ : List ℕ} (j : ℕ) (ws :
     → at + n ≡ j → s₁ ≡ sets s at (bytes n x) → s₂ ≡ sets s₁ j ws → s₂ ≡ sets s at (bytes n x ++ ws)
 field_then s at n x j ws h e f = and_then s at (bytes n x) j ws (simp length-bytes h) e f
 
+-- a place stored to with the next byte: the places before it, and then the bytes that are left, are all
+pub byte_stored : (l : List ℕ) (i n v : ℕ) (all : List ℕ) → i < length l → i < n
+    → take i l ++ bytes (n - i) v ≡ all → take (i + 1) (set l i (v % 256)) ++ bytes (n - (i + 1)) (v / 256) ≡ all
+unfolding bytes
+byte_stored l i n v all h k e =
+    let a : n - i ≡ suc (n - (i + 1)) = omega arith in
+    rw (take_more_set l i (v % 256) h, append_assoc) (rw a at e)
+
+-- and when no byte is left, the places hold them all
+pub bytes_stored : (l : List ℕ) (i n v : ℕ) (all : List ℕ) → length l ≤ i → n - i ≡ 0 → take i l ++ bytes (n - i) v ≡ all → l ≡ all
+unfolding bytes
+bytes_stored l i n v all h z e = sym (take_all i l h) ∙ sym (append-nil (take i l)) ∙ rw z at e
+
 -- without its first byte a number fits one byte less
 fits_next : (n x : ℕ) → x < 256 ^ suc n → x / 256 < 256 ^ n
 fits_next n x h = (div-lt_iff_lt-mul {k = 256} {x = x} {y = 256 ^ n} (omega arith)).1 (rw (pow-suc 256 n) at h)
@@ -228,6 +242,24 @@ bytes_le (x ∷ l) h =
 pub bytes-num : (xs : List ℕ) (at n : ℕ) → at + n ≤ length xs → Small xs → bytes n (num xs at n) ≡ part xs at n
 unfolding num
 bytes-num xs at n h b = rw (length_part xs at n h) at (bytes_le (part xs at n) (small-part xs at n b))
+
+-- ---- fields one after the other
+
+pub total-more : (ws : List ℕ) (i : ℕ) → i < length ws → total (drop i ws) ≡ get_or ws i 0 + total (drop (i + 1) ws)
+unfolding total
+total-more ws i h = let b : i + 1 ≡ suc i = omega arith in rw (b, drop-cons ws i 0 h)
+
+pub laid_more : (s : List ℕ) (p : ℕ) (ws vs : List ℕ) (i : ℕ) → i < length ws → i < length vs
+    → sets (sets s p (bytes (get_or ws i 0) (get_or vs i 0))) (p + get_or ws i 0) (laid (drop (i + 1) ws) (drop (i + 1) vs)) ≡ sets s p (laid (drop i ws) (drop i vs))
+unfolding laid
+laid_more s p ws vs i h k =
+    let b : i + 1 ≡ suc i = omega arith in
+    sets_then s p (bytes (get_or ws i 0) (get_or vs i 0)) (p + get_or ws i 0) (laid (drop (i + 1) ws) (drop (i + 1) vs)) (rw length-bytes)
+    ∙ rw (drop-cons ws i 0 h, drop-cons vs i 0 k, b)
+
+pub laid_none : (s : List ℕ) (p : ℕ) (ws vs : List ℕ) (i : ℕ) → length ws ≤ i → sets s p (laid (drop i ws) (drop i vs)) ≡ s
+unfolding laid
+laid_none s p ws vs i h = rw (drop_of_length-le ws h)
 
 -- ---- zeros
 

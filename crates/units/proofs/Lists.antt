@@ -4,7 +4,7 @@ use mathlib.Core.Path.{◌≡◌, refl, sym, ap, ◌∙◌}
 use mathlib.Core.Logic.{◌⊎◌, inl, inr}
 use mathlib.Core.List.{List, [], ◌∷◌, ◌++◌, append-nil, append_assoc}
 use Prim.Native.Nat.{ℕ, suc, ◌+◌, ◌-◌, ◌≤◌, ◌<◌}
-use native.Mathlib.Nat.{add-zero, add-suc}
+use native.Mathlib.Nat.{add-zero, sub-zero, add-suc}
 use native.Mathlib.Omega.{arith}
 use lib.ListN.{length, take, drop, get_or, set, replicate, length-set, length-drop, drop_of_length-le, get_or-append}
 use lib.Seq.{drop-cons, set-append_left, set_comm, drop-drop, sets, sets-eq, take_at, drop_at, take_all, take-add, take-take, take-append-le, drop-append-le, get_or-take, get_or-drop, get_or-set_other, length-take-le, drop-set-lt, drop-set-add, take-set-le}
@@ -140,11 +140,29 @@ sets-all l vs e =
 pub store-more : (s : List ℕ) (at i v : ℕ) (vs : List ℕ) → sets (set s (at + i) v) (at + (i + 1)) vs ≡ sets s (at + i) (v ∷ vs)
 store-more s at i v vs = let b : at + (i + 1) ≡ suc (at + i) = omega arith in rw b
 
+pub copy_more : (s : List ℕ) (at : ℕ) (src : List ℕ) (i : ℕ) → i < length src
+    → sets (set s (at + i) (get_or src i 0)) (at + (i + 1)) (drop (i + 1) src) ≡ sets s (at + i) (drop i src)
+copy_more s at src i h =
+    let a : i + 1 ≡ suc i = omega arith in
+    store-more s at i (get_or src i 0) (drop (i + 1) src) ∙ rw (drop-cons src i 0 h, a)
+
 pub zeros-more : (s : List ℕ) (at i n : ℕ) → i < n
     → sets (set s (at + i) 0) (at + (i + 1)) (replicate (n - (i + 1)) 0) ≡ sets s (at + i) (replicate (n - i) 0)
 zeros-more s at i n h =
     let a : n - i ≡ suc (n - (i + 1)) = omega arith in
     store-more s at i 0 (replicate (n - (i + 1)) 0) ∙ rw a
+
+-- ---- a part of a list copied to the front of another
+
+pub copy-first : (o s : List ℕ) (at : ℕ) → at + length o ≤ length s → sets o 0 (part s (at + 0) (length o - 0)) ≡ part s at (length o)
+copy-first o s at h =
+    simp (add-zero, sub-zero) (sets-all o (part s at (length o)) (sym (length_part s at (length o) h)))
+
+pub copy_step : (o s : List ℕ) (at i n : ℕ) → i < n → at + n ≤ length s
+    → sets (set o i (get_or s (at + i) 0)) (i + 1) (part s (at + (i + 1)) (n - (i + 1))) ≡ sets o i (part s (at + i) (n - i))
+copy_step o s at i n h k =
+    let b : i + 1 ≡ suc i = omega arith in
+    rw (part_step s at i n h k, b)
 
 -- ---- a lent part, `&mut s[at..at + n]`: what is lent, and the whole with ys come back in its place
 

@@ -20,6 +20,17 @@ unfoldable pub bytes : ℕ → ℕ → List ℕ
 bytes zero x = []
 bytes (suc n) x = x % 256 ∷ bytes n (x / 256)
 
+-- the sum of the numbers
+unfoldable pub total : List ℕ → ℕ
+total [] = 0
+total (w ∷ ws) = w + total ws
+
+-- fields one after the other: each value in its width of bytes
+unfoldable pub laid : List ℕ → List ℕ → List ℕ
+laid (w ∷ ws) (v ∷ vs) = bytes w v ++ laid ws vs
+laid [] vs = []
+laid (w ∷ ws) [] = []
+
 -- two lists are the same
 unfoldable pub same : List ℕ → List ℕ → Bool
 same [] [] = true

@@ -4,7 +4,7 @@ use Rattle.std.proofs.Common.{sym, ap, ◌∙◌}
 use Rattle.units.specs.declared.Refusal.{Refusal}
 use Rattle.units.specs.declared.Reason.{Reason}
 use Rattle.units.specs.declared.why.Why.{Why}
-use Rattle.units.specs.Answer.{Answer, accepted, refused, if_zero}
+use Rattle.units.specs.Answer.{Answer, accepted, refused, if_zero, Beside}
 use Rattle.units.specs.Refusals.{refused_by, refusal_of, reason_of, why_at, back, reason-back}
 
 -- a call's answer: its value, or the number of its refusal
@@ -48,3 +48,19 @@ card-means-back (Err r) = ap Err (reason-back r)
 
 pub card-means-one : {A : Type 0} (r s : Result A Reason) → card_means r ≡ card_means s → r ≡ s
 card-means-one = one-meaning card_means made_with card-means-back
+
+-- the same for a verdict with a value beside it, in any struct that is made of the two
+module _ {A E X : Type 0} (means : X → Answer Unit) (one : (v w : X) → means v ≡ means w → v ≡ w) (make : X → A → E) where
+  pub beside-by : (v w : X) (x y : A) → ◌≡◌ {A = Beside A} (record { verdict = means v; value = x }) (record { verdict = means w; value = y }) → make v x ≡ make w y
+  beside-by v w x y e =
+      let p : v ≡ w = one v w (ap (λ b. b.verdict) e) in
+      let q : x ≡ y = ap (λ b. b.value) e in
+      cc
+
+pub beside-one : {A E : Type 0} (make : Result Unit Refusal → A → E) (v w : Result Unit Refusal) (x y : A)
+    → ◌≡◌ {A = Beside A} (record { verdict = means v; value = x }) (record { verdict = means w; value = y }) → make v x ≡ make w y
+beside-one make = beside-by means means-one make
+
+pub card-beside-one : {A E : Type 0} (make : Result Unit Reason → A → E) (v w : Result Unit Reason) (x y : A)
+    → ◌≡◌ {A = Beside A} (record { verdict = card_means v; value = x }) (record { verdict = card_means w; value = y }) → make v x ≡ make w y
+card-beside-one make = beside-by card_means card-means-one make

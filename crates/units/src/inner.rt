@@ -1,7 +1,7 @@
 // Leaves for our own crates: each `requires` is a range that its caller has tested. No public calls.
 ghost use Rattle.std.specs.Prelude.{◌≡◌, ℕ, ◌+◌, ◌*◌, ◌-◌, ◌^◌, ◌≤◌, ◌<◌, length, replicate};
 ghost use Rattle.std.proofs.lemmas.List.Edits.{sets};
-ghost use Rattle.units.specs.Bytes.{part, num, bytes, same, all_zero};
+ghost use Rattle.units.specs.Bytes.{part, num, bytes, total, laid, same, all_zero};
 ghost use Rattle.units.specs.Numbers.{width_of, bytes_in};
 ghost use Rattle.units.specs.Guids.{tail_at, tail_bytes, guid_at, guid_bytes};
 
@@ -128,13 +128,28 @@ impl Field for u64 {
     }
 }
 
-// All of src, stored at place at.
-#[tactic(auto, using(crate::proofs::Lists::lent_back))]
+// The n low bytes of x, least first, stored at place at.
+pub fn put_num(s: &mut [u8], at: usize, n: usize, x: u64)
+    requires { at + n ≤ length s.old }
+    ensures { s.new ≡ sets s.old at (bytes n x) }
+{
+    let mut v = x;
+    for byte in &mut s[at..at + n] {
+        *byte = (v % 256) as u8;
+        v /= 256;
+    }
+}
+
+// All of src, stored at place at. This and `copy_out` stay loops: the slice's own copy asks for `memmove`, a name that the archives for C would newly need.
 pub fn put_bytes(s: &mut [u8], at: usize, src: &[u8])
     requires { at + length src.now ≤ length s.old }
     ensures { s.new ≡ sets s.old at src.now }
 {
-    s[at..at + src.len()].copy_from_slice(src);
+    let mut i = 0;
+    while i < src.len() {
+        s[at + i] = src[i];
+        i += 1;
+    }
 }
 
 // The bytes of s from place at on, as many as out has.
@@ -142,7 +157,11 @@ pub fn copy_out(out: &mut [u8], s: &[u8], at: usize)
     requires { at + length out.old ≤ length s.now }
     ensures { out.new ≡ part s.now at (length out.old) }
 {
-    out.copy_from_slice(&s[at..at + out.len()]);
+    let mut i = 0;
+    while i < out.len() {
+        out[i] = s[at + i];
+        i += 1;
+    }
 }
 
 // n zeros, stored at place at.
@@ -152,6 +171,18 @@ pub fn put_zeros(s: &mut [u8], at: usize, n: usize)
     ensures { s.new ≡ sets s.old at (replicate n 0) }
 {
     s[at..at + n].fill(0);
+}
+
+// Fields one after the other from place at on: the value vals[i] in widths[i] bytes.
+pub fn put_fields(s: &mut [u8], at: usize, widths: &[usize], vals: &[u64])
+    requires { (length widths.now ≡ length vals.now) × (at + total widths.now ≤ length s.old) }
+    ensures { s.new ≡ sets s.old at (laid widths.now vals.now) }
+{
+    let mut p = at;
+    for (i, width) in widths.iter().enumerate() {
+        put_num(s, p, *width, vals[i]);
+        p += *width;
+    }
 }
 
 // Whether the n bytes at place at are all zero: no early exit, so that it runs as vectors.

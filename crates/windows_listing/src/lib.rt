@@ -104,7 +104,7 @@ pub fn free_runs<'a>(
 {
     let found = windows::inner::check_in(head, tail, blocks, b);
     if found.number != 0 {
-        return Err(found.reason());
+        return ground::inner::answer(found, 0);
     }
     let size = b as usize;
     let len = (blocks * b) as usize;
@@ -118,7 +118,7 @@ pub fn slot_map<'a>(head: &'a [u8], tail: &'a [u8], blocks: u64, b: u64) -> Resu
 {
     let found = windows::inner::check_in(head, tail, blocks, b);
     if found.number != 0 {
-        return Err(found.reason());
+        return slot_map::inner::made(found, SlotMap { low: 0, high: 0 });
     }
     let size = b as usize;
     let front = &head[size..size + (size + 16384)];

@@ -4,7 +4,7 @@ use Rattle.partition.proofs.Laws.{from-yes, from-no, from-none}
 use Rattle.tables.specs.Lens.{tables}
 use Rattle.listing.specs.Listing.{present_slots}
 use Rattle.lister.proofs.print_slots.Goals as goal
-use Rattle.lister.proofs.print_slots.Goals.{then-used, else-used}
+use Rattle.lister.proofs.print_slots.Goals.{then-print_slot, else-print_slot}
 
 -- before the first slot all are left
 all_left : (xs : List ℕ) → length (present_slots (tables 512 xs)) ≡ length (present_from (tables 512 xs).front.array 0 0 (128 - 0))
@@ -19,10 +19,10 @@ loop-place-preserved g c =
     let l = c.loop-place in
     let arr = (tables 512 c.args.img.now).front.array in
     let k : c.slot_at.result.0 - 1 ≡ l.place = rw c.slot_at.ensures (omega arith) in
-    let e = ap (present arr 0) (sym k) ∙ sym c.in_ok-used.ensures in
-    elim c.if-used.branch [
-      | then-used w ↦ (omega arith, omega (arith, ap length (from-yes arr 0 l.place 128 (omega arith) (e ∙ w.if-used.true))))
-      | else-used w ↦ (omega arith, omega (arith, ap length (from-no arr 0 l.place 128 (omega arith) (e ∙ w.if-used.false))))
+    let e = ap (present arr 0) (sym k) ∙ sym c.print_slot.ensures in
+    elim c.if-print_slot.branch [
+      | then-print_slot w ↦ (omega arith, omega (arith, ap length (from-yes arr 0 l.place 128 (omega arith) (e ∙ w.if-print_slot.true))))
+      | else-print_slot w ↦ (omega arith, omega (arith, ap length (from-no arr 0 l.place 128 (omega arith) (e ∙ w.if-print_slot.false))))
     ]
 
 pub returns : goal.returns

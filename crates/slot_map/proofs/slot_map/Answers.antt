@@ -1,14 +1,14 @@
 -- `slot_map::slot_map` meets its contract: the check first, and then the map of the front table. Assumes nothing.
-use mathlib.Core.Path.{sym, ◌∙◌}
+use mathlib.Core.Path.{refl, sym, ◌∙◌}
 use native.Mathlib.Omega.{arith}
 use Rattle.units.proofs.Chains.{number-of}
-use Rattle.slot_map.proofs.Ways.{room_in, front-in, lent-long, answer-refused, answer-made}
+use Rattle.slot_map.proofs.Ways.{room_in, front-in, lent-long, made-means, answer-refused, answer-made}
 use Rattle.slot_map.proofs.slot_map.Goals as goal
 
 pub returns-then-found-ne0 : goal.returns-then-found-ne0
 returns-then-found-ne0 c =
     let a = c.args in
-    answer-refused a.b a.img.now c.check_with-found.ensures c.if-found-ne0.true c.reason.ensures
+    made-means _ _ c.if-found-ne0.true c.made.ensures ∙ answer-refused a.b a.img.now c.check_with-found.ensures c.if-found-ne0.true refl
 
 pub overflow_add-size : goal.overflow_add-size
 overflow_add-size c = let a = c.args in omega (arith, (room_in a.b a.img.now (sym (number-of c.check_with-found.ensures) ∙ c.if-found-ne0.false)).most)

@@ -1,12 +1,17 @@
 -- `windows_listing::free_runs` meets its contract: the check first, and then the runs of the head's front table. Assumes nothing.
+use mathlib.Core.Path.{refl}
 use native.Mathlib.Omega.{arith}
 use Rattle.tables.specs.Check.{check}
+use Rattle.ground.proofs.Ways.{rows-answered}
 use Rattle.windows.proofs.Ways.{why-fits}
 use Rattle.windows_listing.proofs.Ways.{free-refused, free-checked, free-given}
 use Rattle.windows_listing.proofs.free_runs.Goals as goal
 
 pub returns-then-found-ne0 : goal.returns-then-found-ne0
-returns-then-found-ne0 c = let a = c.args in free-refused a.b a.blocks a.head.now a.tail.now c.check_in-found.ensures a.starts.now a.lengths.now c.if-found-ne0.true c.reason.ensures
+returns-then-found-ne0 c =
+    let a = c.args in
+    rows-answered _ 0 c.if-found-ne0.true c.answer.ensures
+    (free-refused a.b a.blocks a.head.now a.tail.now c.check_in-found.ensures a.starts.now a.lengths.now c.if-found-ne0.true refl)
 
 pub overflow_mul-len : goal.overflow_mul-len
 overflow_mul-len c = omega (arith, (let a = c.args in why-fits a.b a.blocks a.head.now a.tail.now (check a.b) c.check_in-found.ensures c.if-found-ne0.false).width)

@@ -1,9 +1,9 @@
 -- `ground::inner::runs_into` meets its contract: one law for each way out. Assumes nothing.
-use mathlib.Core.Path.{sym, ◌∙◌}
+use mathlib.Core.Path.{refl, sym, ◌∙◌}
 use lib.ListN.{length}
 use Rattle.units.proofs.Chains.{number-of}
 use Rattle.ground.specs.Search.{front_runs}
-use Rattle.ground.proofs.Ways.{rows_fit, into-refused, into-filled}
+use Rattle.ground.proofs.Ways.{rows_fit, rows-answered, into-refused, into-filled}
 use Rattle.ground.proofs.inner.runs_into.Goals as goal
 
 pub count_runs-n-requires : goal.count_runs-n-requires
@@ -13,7 +13,8 @@ pub returns-then-found-ne0 : goal.returns-then-found-ne0
 returns-then-found-ne0 c =
     let k = c in
     let a = k.args in
-    into-refused (front_runs a.b a.len a.copy.now) a.starts.now a.lengths.now k.count_runs-n.ensures k.rows_check-found.ensures c.if-found-ne0.true c.reason.ensures
+    rows-answered _ 0 c.if-found-ne0.true c.answer.ensures
+    (into-refused (front_runs a.b a.len a.copy.now) a.starts.now a.lengths.now k.count_runs-n.ensures k.rows_check-found.ensures c.if-found-ne0.true refl)
 
 pub fill-requires : goal.fill-requires
 fill-requires c =
