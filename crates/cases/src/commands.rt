@@ -1,5 +1,8 @@
 // The commands that print a line: each is one card call, or a look at the image. A line has the command as the script has it, and the answer.
 // The image is summed before and after a call, so that a refused one shows that it changed nothing.
+ghost use Rattle.std.specs.Prelude.{Some, flat_map};
+ghost use Rattle.cases.specs.Texts.{flags_text, unit_text, record_text};
+
 use crate::say::Refused;
 use crate::script::{Command, Line};
 use crate::{bytes, say};
@@ -137,10 +140,24 @@ pub fn get(img: &[u8], b: u64, line: Line<'_>, out: &mut Output<impl Write>) -> 
 struct Whole(Partition);
 
 impl fmt::Display for Whole {
+    ghost output = { λ whole. Some (record_text whole.0) };
+
     fn fmt<W: fmt::Write>(&self, f: &mut fmt::Formatter<W>) -> fmt::Result {
         let (first, last) = (self.0.first_lba.0, self.0.last_lba.0);
-        write!(f, "blocks {first} to {last}{}, name", Names(self.0.flags))?;
-        for unit in self.0.name {
+        let (flags, name) = (Names(self.0.flags), Units(&self.0.name));
+        write!(f, "blocks {first} to {last}{flags}, name{name}")
+    }
+}
+
+// The units of a name in hexadecimal digits, each after a space.
+#[derive(Clone, Copy)]
+struct Units<'a>(&'a [u16]);
+
+impl fmt::Display for Units<'_> {
+    ghost output = { λ units. Some (flat_map unit_text units.0.now) };
+
+    fn fmt<W: fmt::Write>(&self, f: &mut fmt::Formatter<W>) -> fmt::Result {
+        for &unit in self.0 {
             write!(f, " {unit:04x}")?;
         }
         Ok(())
@@ -152,6 +169,8 @@ impl fmt::Display for Whole {
 struct Names(Flags);
 
 impl fmt::Display for Names {
+    ghost output = { λ names. Some (flags_text names.0) };
+
     fn fmt<W: fmt::Write>(&self, f: &mut fmt::Formatter<W>) -> fmt::Result {
         let flags = self.0;
         for (is_set, name) in [

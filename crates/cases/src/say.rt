@@ -1,4 +1,7 @@
 // The words of an answer.
+ghost use Rattle.std.specs.Prelude.{Some};
+ghost use Rattle.cases.specs.Texts.{refused_text};
+
 use console::Output;
 use std::io::Write;
 use std::{fmt, io};
@@ -9,6 +12,8 @@ use units::{Reason, Refusal};
 pub struct Refused(pub Reason);
 
 impl fmt::Display for Refused {
+    ghost output = { λ refused. Some (refused_text refused.0.what) };
+
     fn fmt<W: fmt::Write>(&self, f: &mut fmt::Formatter<W>) -> fmt::Result {
         let w = self.0.what;
         write!(f, "refused {}", w.number())?;

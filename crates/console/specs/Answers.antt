@@ -1,5 +1,6 @@
 -- What the contracts of `console` cite.
 use Rattle.std.specs.Prelude.{◌≡◌, ℕ, List, [], ◌∷◌, ◌++◌, Bool, true, false, take, codes}
+use Rattle.io.specs.Digits.{last_digits}
 use Rattle.std.specs.declared.option.Option.{Option}
 use Rattle.std.specs.Io.KnownBytes.{Appends, Keeps}
 use Rattle.console.specs.declared.Failure.{Failure}
@@ -20,3 +21,11 @@ failure_text failed.Output = codes "cannot write the output"
 -- the line that says it of a program
 abbrev pub failure_line : List ℕ → Failure → List ℕ
 failure_line program failure = program ++ codes ": " ++ failure_text failure ++ (10 ∷ [])
+
+-- a number in so many hexadecimal digits
+abbrev pub hex_digits : ℕ → ℕ → List ℕ
+hex_digits = last_digits 16
+
+-- a byte as a space and two of them
+abbrev pub spaced_byte : ℕ → List ℕ
+spaced_byte byte = 32 ∷ hex_digits 2 byte

@@ -1,6 +1,9 @@
 // Runs document 01's cases at the edges, P1 to P14, on the code, and prints what each call answers.
 #![tactic(auto)]
 
+ghost use Rattle.std.specs.Prelude.{Some, flat_map};
+ghost use Rattle.console.specs.Answers.{spaced_byte};
+
 use builder::HeaderBuilder;
 use console::Output;
 use mbr::ProtectiveMbr;
@@ -14,8 +17,10 @@ use units::{BytePlace, Guid, Lba, Refusal};
 struct Bytes<'a>(&'a [u8]);
 
 impl fmt::Display for Bytes<'_> {
+    ghost output = { λ bytes. Some (flat_map spaced_byte bytes.0.now) };
+
     fn fmt<W: fmt::Write>(&self, f: &mut fmt::Formatter<W>) -> fmt::Result {
-        for byte in self.0 {
+        for &byte in self.0 {
             write!(f, " {byte:02x}")?;
         }
         Ok(())

@@ -1,4 +1,7 @@
 // Builds headers of document 01's cases at the edges with a builder that is lent to each of its setters, and prints what is built.
+ghost use Rattle.std.specs.Prelude.{Some};
+ghost use Rattle.lent_demo.specs.Texts.{built_text};
+
 use crate::lent;
 use builder::HeaderBuilder;
 use console::Output;
@@ -12,6 +15,8 @@ use units::{Guid, Lba, Tail};
 struct Built(Header);
 
 impl fmt::Display for Built {
+    ghost output = { λ built. Some (built_text built.0) };
+
     fn fmt<W: fmt::Write>(&self, f: &mut fmt::Formatter<W>) -> fmt::Result {
         let h = self.0;
         let (current, backup, start) = (h.current_lba.0, h.backup_lba.0, h.part_start.0);

@@ -1,4 +1,7 @@
 // Why a replay stops before the tape's end.
+ghost use Rattle.std.specs.Prelude.{Some};
+ghost use Rattle.replay.specs.Texts.{stop_text};
+
 use replay_calls::kinds::UnknownKind;
 use replay_calls::tape::NoMore;
 use std::error::Error;
@@ -14,6 +17,8 @@ pub enum Stop {
 }
 
 impl fmt::Display for Stop {
+    ghost output = { λ stop. Some (stop_text stop) };
+
     fn fmt<W: fmt::Write>(&self, f: &mut fmt::Formatter<W>) -> fmt::Result {
         match self {
             Stop::NoMore => write!(f, "{}", NoMore),

@@ -1,5 +1,7 @@
 // The kinds of calls: which there are, and how long the arguments and the answer of each are. README.md, beside the folder `src`, has the format.
-ghost use Rattle.std.specs.Prelude.{◌≤◌};
+ghost use Rattle.std.specs.Prelude.{◌≡◌, ◌≤◌, Some};
+ghost use Rattle.replay_calls.specs.Lengths.{first_len, values_len, sum_len, rest_len, answer_len};
+ghost use Rattle.replay_calls.specs.Texts.{kind_text, unknown_kind_text};
 
 use std::error::Error;
 use std::fmt;
@@ -41,6 +43,8 @@ pub enum Step {
 pub struct UnknownKind;
 
 impl fmt::Display for UnknownKind {
+    ghost output = { λ _. Some unknown_kind_text };
+
     fn fmt<W: fmt::Write>(&self, f: &mut fmt::Formatter<W>) -> fmt::Result {
         write!(f, "a step of an unknown kind")
     }
@@ -117,7 +121,8 @@ impl Kind {
 
     // How many bytes of an answer are always there: its number, or the whole answer of a call that has no number of its own.
     pub fn first(self) -> usize
-        ensures { result ≤ 27 }
+        ensures length { result ≡ first_len self }
+        ensures bound { result ≤ 27 }
     {
         match self {
             Kind::Lengths => 27,
@@ -128,7 +133,8 @@ impl Kind {
 
     // How many bytes the values of an accepted call take.
     fn values(self) -> usize
-        ensures { result ≤ 88 }
+        ensures length { result ≡ values_len self }
+        ensures bound { result ≤ 88 }
     {
         match self {
             Kind::ReadPrimary | Kind::ReadBackup | Kind::Build | Kind::BuildFromHeader => 84,
@@ -142,7 +148,8 @@ impl Kind {
 
     // How many bytes the sum of the image takes: it follows what a call that can change the image answers.
     fn sum(self) -> usize
-        ensures { result ≤ 4 }
+        ensures length { result ≡ sum_len self }
+        ensures bound { result ≤ 4 }
     {
         match self {
             Kind::WritePrimary
@@ -157,7 +164,8 @@ impl Kind {
 
     // How many bytes of an answer follow the first, where the number is this.
     pub fn rest(self, number: u8) -> usize
-        ensures { result ≤ 92 }
+        ensures length { result ≡ rest_len self number }
+        ensures bound { result ≤ 92 }
     {
         if number == 0 {
             self.values() + self.sum()
@@ -168,7 +176,8 @@ impl Kind {
 
     // How many bytes an answer has that begins with this byte.
     pub fn length(self, number: u8) -> usize
-        ensures { result ≤ 119 }
+        ensures length { result ≡ answer_len self number }
+        ensures bound { result ≤ 119 }
     {
         self.first() + self.rest(number)
     }
@@ -176,6 +185,8 @@ impl Kind {
 
 // The calls that a kind stands for.
 impl fmt::Display for Kind {
+    ghost output = { λ kind. Some (kind_text kind) };
+
     fn fmt<W: fmt::Write>(&self, f: &mut fmt::Formatter<W>) -> fmt::Result {
         match self {
             Kind::ReadPrimary => write!(f, "read_primary_header"),

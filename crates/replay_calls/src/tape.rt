@@ -1,5 +1,6 @@
 // The tape, read from standard input.
-ghost use Rattle.std.specs.Prelude.{◌+◌, ◌≤◌};
+ghost use Rattle.std.specs.Prelude.{◌+◌, ◌≤◌, Some};
+ghost use Rattle.replay_calls.specs.Texts.{no_more_text};
 
 use crate::kinds::Kind;
 use crate::told::Answer;
@@ -45,6 +46,8 @@ impl Args {
 pub struct NoMore;
 
 impl fmt::Display for NoMore {
+    ghost output = { λ _. Some no_more_text };
+
     fn fmt<W: fmt::Write>(&self, f: &mut fmt::Formatter<W>) -> fmt::Result {
         write!(f, "no more of the tape could be read")
     }

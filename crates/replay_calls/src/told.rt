@@ -1,6 +1,7 @@
 // Answers as the tape has them: the number, the values of an accepted call, and the sum of the image. What is left of the 128 bytes is zero, so two
 // answers are the same where all their bytes are.
-ghost use Rattle.std.specs.Prelude.{◌+◌, ◌≤◌, length};
+ghost use Rattle.std.specs.Prelude.{◌+◌, ◌≤◌, Some, length};
+ghost use Rattle.replay_calls.specs.Texts.{told_text};
 
 use crate::kinds::Kind;
 use header::Header;
@@ -94,10 +95,12 @@ pub struct Told {
 }
 
 impl fmt::Display for Told {
+    ghost output = { λ told. Some (told_text told) };
+
     fn fmt<W: fmt::Write>(&self, f: &mut fmt::Formatter<W>) -> fmt::Result {
         let bytes = self.answer.0;
         let n = self.kind.length(bytes[0]);
-        for byte in &bytes[..n] {
+        for &byte in &bytes[..n] {
             write!(f, "{byte:02x}")?;
         }
         Ok(())

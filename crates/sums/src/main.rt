@@ -6,9 +6,10 @@
 // that cannot be written are said on standard error: of such an input there is no sum.
 #![tactic(auto)]
 
-ghost use Rattle.std.specs.Prelude.{ℕ, ◌-◌, ◌^◌, ◌%◌, ◌<◌, ◌≤◌, ◌≡◌, List, IfOk, length, get_or};
+ghost use Rattle.std.specs.Prelude.{ℕ, ◌-◌, ◌^◌, ◌%◌, ◌<◌, ◌≤◌, ◌≡◌, List, IfOk, Some, length, get_or, flat_map};
 ghost use Rattle.std.specs.Io.KnownBytes.{Consumes, IsAtEnd};
 ghost use Rattle.crc32.specs.Crc.{crc};
+ghost use Rattle.console.specs.Answers.{spaced_byte};
 
 use console::Output;
 use std::io::{Error, Read, Write};
@@ -63,8 +64,10 @@ fn show_texts(texts: &[&str], out: &mut Output<impl Write>) -> io::Result<()> {
 struct Bytes<'a>(&'a [u8]);
 
 impl fmt::Display for Bytes<'_> {
+    ghost output = { λ bytes. Some (flat_map spaced_byte bytes.0.now) };
+
     fn fmt<W: fmt::Write>(&self, f: &mut fmt::Formatter<W>) -> fmt::Result {
-        for byte in self.0 {
+        for &byte in self.0 {
             write!(f, " {byte:02x}")?;
         }
         Ok(())

@@ -3,8 +3,10 @@
 // one `refused` and its number. Input that cannot be read and output that cannot be written are said on standard error, and are no verdict.
 #![tactic(auto)]
 
-ghost use Rattle.std.specs.Prelude.{◌≡◌};
+ghost use Rattle.std.specs.Prelude.{◌≡◌, Some};
+ghost use Rattle.std.specs.List.{position, before_first};
 ghost use Rattle.rows.specs.Plans.{Made};
+ghost use Rattle.uefi_lister.specs.Texts.{is_zero, letter, name_text};
 
 use console::Output;
 use partition::Partition;
@@ -20,10 +22,29 @@ const USAGE: &str =
 const LONGEST: usize = 65536;
 
 // The letter of a unit of a name. Half of a pair of units, and what is no letter of a line, is `?`.
-fn letter(unit: u16) -> char {
+fn letter(unit: u16) -> char
+    ensures { result ≡ letter unit }
+{
     match char::from_u32(u32::from(unit)) {
         Some(c) if !c.is_control() => c,
         _ => '?',
+    }
+}
+
+// Where the first zero unit of a name stands.
+fn zero_at(name: &[u16]) -> Option<usize>
+    ensures { result ≡ position is_zero name.now }
+{
+    name.iter().position(|unit| *unit == 0)
+}
+
+// The units of a name before its first zero unit, or all where none is zero.
+fn before_zero(name: &[u16]) -> &[u16]
+    ensures { result.now ≡ before_first is_zero name.now }
+{
+    match zero_at(name) {
+        Some(n) => &name[..n],
+        None => name,
     }
 }
 
@@ -32,9 +53,11 @@ fn letter(unit: u16) -> char {
 struct Name([u16; 36]);
 
 impl fmt::Display for Name {
+    ghost output = { λ name. Some (name_text name.0) };
+
     fn fmt<W: fmt::Write>(&self, f: &mut fmt::Formatter<W>) -> fmt::Result {
-        for unit in self.0.iter().take_while(|unit| **unit != 0) {
-            write!(f, "{}", letter(*unit))?;
+        for &unit in before_zero(&self.0) {
+            write!(f, "{}", letter(unit))?;
         }
         Ok(())
     }

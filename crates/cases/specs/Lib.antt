@@ -1,0 +1,2 @@
+-- `Texts` has what `cases` prints of refusals and records.
+pub mod Texts

@@ -1,0 +1,2 @@
+-- `Texts` has what `replay` says.
+pub mod Texts

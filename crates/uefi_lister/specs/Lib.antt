@@ -1,0 +1,2 @@
+-- `Texts` has what `uefi_lister` prints of a name.
+pub mod Texts
