@@ -18,7 +18,7 @@ pub displayed-next : {A W : Type 0} (took : W → List ℕ → W → Type 0) (te
 displayed-next took text xs i d f g h r o within before writes ok is =
     let x = get_or xs i d in
     let next = ap (flat_map text) (take_more xs i d within) ∙ flat_map-append text (take i xs) (x ∷ [])
-        ∙ ap (λ l. flat_map text (take i xs) ++ l) (append-nil (text x)) in
+    ∙ ap (λ l. flat_map text (take i xs) ++ l) (append-nil (text x)) in
     let one = subst (λ (p : Option (List ℕ)). DisplaysOnOk took g r p h) is writes before.plain ok in
     has_written_of_eq took f _ _ h (sym next) (has_written_append took f _ g _ h before one)
 
@@ -72,7 +72,7 @@ padded-from-spelled k n (ds, are, fit, with_zeros) =
     rw is (ap (λ m. zeros m ++ (ds ++ [])) room ∙ ap (λ l. zeros (suc k - length ds) ++ l) (append-nil ds) ∙ with_zeros)
 
 -- a number with zeros in front up to a width
-pub hex-padded : (k n : ℕ) → k < 64 → n < 16 ^ suc k
+hex-padded : (k n : ℕ) → k < 64 → n < 16 ^ suc k
     → padded_integral (format_spec 32 0 4 (suc k) (2 ^ 64 - 1)) false [] (digits 16 false n) ≡ last_digits 16 (suc k) n
 hex-padded k n room small = padded-from-spelled k n (spelled k 64 n [] (omega arith) small)
 

@@ -147,8 +147,8 @@ impl<W: Write> Output<W> {
 
     // Writes a text as one piece, unless an earlier write failed. `write!` and `writeln!` call it, in place of the method of `Write`, so its clauses say
     // what is written where a write fails, too; of a text whose bytes no clause knows, that nothing is written after one that failed. The text is laid out
-    // first, in a room of 1,024 bytes. Of a text that needs more nothing is written, and that counts as a failed write. The longest line of the programs
-    // has some 550 bytes.
+    // first, in a room of 1,024 bytes. Of a text that needs more, or whose `fmt` answers an error of its own, nothing is written, and that counts as a failed
+    // write. The longest line of the programs has some 550 bytes.
     pub fn write_fmt<D: fmt::Display + Drop>(&mut self, text: D) -> Result<(), Error>
         ensures written { IfSome (D.output text) (λ bs. Writes (W.contents self.old.writer) self.old.ok (W.contents self.new.writer) self.new.ok bs) }
         ensures any { (bs : List ℕ) × Writes (W.contents self.old.writer) self.old.ok (W.contents self.new.writer) self.new.ok bs }
