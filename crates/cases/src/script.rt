@@ -1,4 +1,6 @@
 // The script: a line is a command in plain words, named by its first letter, with the numbers that it needs in their order.
+ghost use Rattle.std.specs.Prelude.{◌≤◌, length};
+
 use units::{BytePlace, Lba, Slot};
 
 // What a line asks for.
@@ -62,11 +64,11 @@ impl Line<'_> {
 
     // Number k of the line, counted from 0; 0 if there are fewer.
     pub fn number(self, k: usize) -> u64 {
-        self.0
-            .split(|letter| !letter.is_ascii_digit())
-            .filter(|digits| !digits.is_empty())
-            .nth(k)
-            .map_or(0, value)
+        let mut rest = from_digit(self.0);
+        for _ in 0..k {
+            rest = from_digit(&rest[digits(rest)..]);
+        }
+        value(&rest[..digits(rest)])
     }
 
     pub fn block(self, k: usize) -> Lba {
@@ -96,6 +98,24 @@ impl Line<'_> {
             *unit = (self.number(k) & 0xFFFF) as u16;
         }
         name
+    }
+}
+
+// The letters from the first digit on; none if there is no digit.
+fn from_digit(letters: &[u8]) -> &[u8] {
+    match letters.iter().position(u8::is_ascii_digit) {
+        Some(n) => &letters[n..],
+        None => &[],
+    }
+}
+
+// How many digits stand in front of the first other letter.
+fn digits(letters: &[u8]) -> usize
+    ensures { result ≤ length letters.now }
+{
+    match letters.iter().position(|letter| !letter.is_ascii_digit()) {
+        Some(n) => n,
+        None => letters.len(),
     }
 }
 
